@@ -1,0 +1,12 @@
+pub mod Machine
+pub mod Network
+pub mod Walks
+pub mod Rules
+pub mod Covering
+pub mod Model
+pub mod Limits
+pub mod Loops
+pub mod Lists
+pub mod Verdict
+pub mod Promise
+pub mod Cases
