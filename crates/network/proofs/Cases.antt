@@ -13,8 +13,8 @@ use Rattle.network.specs.Network.{Network, leaf, join, hide, State, star
 use Rattle.network.specs.Walks.{Walk, Reachable, SilentRun, NoSilentLoop}
 use Rattle.network.specs.Model.{idle, nowhere, networkOf, networksFrom, networks, nodeNetwork, root, ownMachine}
 use Rattle.network.specs.Model.{leafMachines, product, bound}
-use Rattle.network.specs.Limits.{isLabel}
-use Rattle.network.specs.Loops.{anyOf, reach, stays, leads, edge, reaches, carries, loops, isSilent, closes}
+use Rattle.network.specs.Machine.{isLabel, isSilent}
+use Rattle.network.specs.Loops.{anyOf, reach, stays, leads, edge, reaches, carries, loops, closes}
 use Rattle.network.specs.Loops.{spins}
 use Rattle.network.specs.Lists.{pack, firstOf, secondOf, insertAt, insertAll, inOrder, numbersBelow}
 use Rattle.network.specs.Lists.{leafCandidate, togetherCandidate, aloneCandidate, joinCandidates, hideCandidate}

@@ -3,17 +3,12 @@
 use mathlib.Core.Bool.{Bool, false, _||_}
 use mathlib.Core.List.{List, [], _∷_, List·Memᴰ}
 use Prim.Native.Nat.{ℕ, _+_, _≤_}
-use lib.Dec.{eqb}
 use lib.ListN.{length}
 use Rattle.events.specs.Sets.{setOf, count}
-use Rattle.network.specs.Machine.{Label, silent, event, Step, step, Machine}
+use Rattle.network.specs.Machine.{isLabel, Step, step, Machine}
 use Rattle.network.specs.Model.{Model, leafMachines}
 
 -- some step of the list is labelled e
-unfoldable pub isLabel : ℕ → Label → Bool
-isLabel e silent = false
-isLabel e (event d) = eqb d e
-
 unfoldable pub labels : ℕ → List Step → Bool
 labels e [] = false
 labels e (step s l s′ ∷ xs) = isLabel e l || labels e xs
