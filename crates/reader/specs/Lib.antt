@@ -1,0 +1,6 @@
+pub mod Scan
+pub mod File
+pub mod Encoding
+pub mod Finding
+pub mod Promise
+pub mod Cases

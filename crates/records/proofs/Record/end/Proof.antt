@@ -1,0 +1,12 @@
+use borrow.Author.Needs.{needs}
+use Rattle.records.proofs.Record.end.Statement.{statement}
+use Rattle.records.proofs.Record.end.Tie as tie
+
+other-requires : tie.Need-other-requires
+other-requires c κs = search needs
+
+returns : tie.Need-returns
+returns c = rw (c .other .ensures)
+
+pub end-spec : {M : Type 1} → statement M
+end-spec = tie.close (tie.spec other-requires returns)

@@ -1,0 +1,56 @@
+-- The sizes of records, kind by kind.
+-- Assumes nothing.
+use mathlib.Core.Path.{_≡_, refl, ap}
+use mathlib.Core.List.{[], _∷_}
+use mathlib.Core.Bool.{Bool, true, false}
+use Prim.Native.Nat.{ℕ, zero, suc, _<_, _≤_}
+use native.Mathlib.Omega.{arith}
+use lib.Dec.{ltb}
+use lib.ListN.{getD, List·getD-eq-default}
+use borrow.Author.Tests.{ltb-true, ltb-false}
+use Rattle.records.specs.Kinds.{bodyLength, sizeOf}
+
+-- a fact of each kind is a fact of every kind from 1 to 8
+pub each-kind : (P : ℕ → Type 0) → P 1 → P 2 → P 3 → P 4 → P 5 → P 6 → P 7 → P 8 → (k : ℕ) → 1 ≤ k → k ≤ 8 → P k
+each-kind P a b c d e f g h zero l m = absurd (omega arith)
+each-kind P a b c d e f g h (suc zero) l m = a
+each-kind P a b c d e f g h (suc (suc zero)) l m = b
+each-kind P a b c d e f g h (suc (suc (suc zero))) l m = c
+each-kind P a b c d e f g h (suc (suc (suc (suc zero)))) l m = d
+each-kind P a b c d e f g h (suc (suc (suc (suc (suc zero))))) l m = e
+each-kind P a b c d e f g h (suc (suc (suc (suc (suc (suc zero)))))) l m = f
+each-kind P a b c d e f g h (suc (suc (suc (suc (suc (suc (suc zero))))))) l m = g
+each-kind P a b c d e f g h (suc (suc (suc (suc (suc (suc (suc (suc zero)))))))) l m = h
+each-kind P a b c d e f g h (suc (suc (suc (suc (suc (suc (suc (suc (suc k))))))))) l m = absurd (omega arith)
+
+-- the table that the code has
+pub sizes-are : (k : ℕ) → k < 9 → getD (1 ∷ 2 ∷ 2 ∷ 4 ∷ 2 ∷ 5 ∷ 4 ∷ 18 ∷ 3 ∷ []) k 0 ≡ sizeOf k
+unfolding sizeOf bodyLength
+sizes-are zero h = refl
+sizes-are (suc k) h =
+    each-kind (λ k. getD (1 ∷ 2 ∷ 2 ∷ 4 ∷ 2 ∷ 5 ∷ 4 ∷ 18 ∷ 3 ∷ []) k 0 ≡ sizeOf k)
+    refl refl refl refl refl refl refl refl (suc k) (omega arith) (omega arith)
+
+pub size-beyond : (k : ℕ) → 9 ≤ k → sizeOf k ≡ 1
+unfolding sizeOf bodyLength
+size-beyond k h = ap suc (List·getD-eq-default (0 ∷ 1 ∷ 1 ∷ 3 ∷ 1 ∷ 4 ∷ 3 ∷ 17 ∷ 2 ∷ []) 0 h)
+
+pub size-positive : (k : ℕ) → 1 ≤ sizeOf k
+unfolding sizeOf
+size-positive k = omega arith
+
+pub size-range : (k : ℕ) → 1 ≤ k → k ≤ 8 → (2 ≤ sizeOf k) × (sizeOf k ≤ 18)
+unfolding sizeOf bodyLength
+size-range =
+    each-kind (λ k. (2 ≤ sizeOf k) × (sizeOf k ≤ 18))
+    (omega arith, omega arith) (omega arith, omega arith) (omega arith, omega arith) (omega arith, omega arith)
+    (omega arith, omega arith) (omega arith, omega arith) (omega arith, omega arith) (omega arith, omega arith)
+
+pub size-most : (k : ℕ) → sizeOf k ≤ 18
+unfolding sizeOf bodyLength
+size-most zero = omega arith
+size-most (suc k) = small (ltb 8 (suc k)) refl
+  where
+    small : (x : Bool) → ltb 8 (suc k) ≡ x → sizeOf (suc k) ≤ 18
+    small true q = omega (arith, size-beyond (suc k) (ltb-true 8 (suc k) q))
+    small false q = size-range (suc k) (omega arith) (ltb-false 8 (suc k) q) .1
