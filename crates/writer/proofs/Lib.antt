@@ -1,0 +1,13 @@
+pub mod Copying
+pub mod Handing
+pub mod Answers
+pub mod Clean
+pub mod Fitting
+pub mod Storing
+pub mod Appending
+pub mod RoundTrip
+pub mod Success
+pub mod Brownout
+pub mod Promise
+pub mod Unique
+pub mod Cases
