@@ -1,7 +1,7 @@
 -- A set is known by its members, and a comprehension `setOf n p` has just the events below n that pass p.
 -- Every law is over n. Assumes nothing.
-use mathlib.Core.Path.{_≡_, refl, sym, _∙_}
-use mathlib.Core.Bool.{Bool, true, false, _||_, true≢false, false≢true}
+use mathlib.Core.Path.{_≡_, refl, sym, ap₂, _∙_}
+use mathlib.Core.Bool.{Bool, true, false, not, _||_, true≢false, false≢true}
 use mathlib.Core.Logic.{_≢_, _⊎_, inl, inr}
 use Prim.Native.Nat.{ℕ, zero, suc, _+_, _*_, _/_, _%_, _^_, _<_}
 use native.Mathlib.Omega.{arith}
@@ -9,8 +9,9 @@ use native.Mathlib.Decide.{ℕ-discrete}
 use native.Mathlib.Nat.{not-suc-le-zero, le-of-suc-le-suc}
 use lib.Dec.{T, eqb}
 use mir.Facts.{or-yes}
-use Rattle.events.specs.Sets.{has, digit, setOf, anyBelow}
-use Rattle.events.proofs.Booleans.{or-left, or-right}
+use borrow.Author.Tests.{eq-eqb, ne-eqb}
+use Rattle.events.specs.Sets.{has, digit, setOf, anyBelow, isEmpty}
+use Rattle.events.proofs.Booleans.{or-left, or-right, same-test}
 
 digit-odd : (b : Bool) (r : ℕ) → (digit b + 2 * r) % 2 ≡ digit b
 digit-odd true r = omega arith
@@ -40,6 +41,14 @@ pub setOf-below : (n : ℕ) (p : ℕ → Bool) → setOf n p < 2 ^ n
 unfolding setOf
 setOf-below zero p = omega arith
 setOf-below (suc n) p = omega (arith, setOf-below n (λ e. p (suc e)), digit-lt (p zero))
+
+-- a comprehension depends on its test below n only
+pub setOf-ext : (n : ℕ) (p q : ℕ → Bool) → ((e : ℕ) → e < n → p e ≡ q e) → setOf n p ≡ setOf n q
+unfolding setOf
+setOf-ext zero p q h = refl
+setOf-ext (suc n) p q h =
+    ap₂ (λ (b : Bool) (r : ℕ). digit b + 2 * r) (h zero (omega arith))
+    (setOf-ext n (λ e. p (suc e)) (λ e. q (suc e)) (λ e l. h (suc e) (omega arith)))
 
 -- a set with a member is not empty, and one that is not empty has a member
 pub member-nonzero : (s e : ℕ) → T (has s e) → s ≢ 0
@@ -126,6 +135,26 @@ any-out (suc n) p t = step (or-yes (p n) (anyBelow n p) t) (any-out n p)
     step (inl h) ih = (n, omega arith, h)
     step (inr h) ih = let r = ih h in (r .0, omega arith, r .2)
 
+pub any-none : (n : ℕ) (p : ℕ → Bool) → ((e : ℕ) → e < n → p e ≡ false) → anyBelow n p ≡ false
+unfolding anyBelow
+any-none zero p h = refl
+any-none (suc n) p h = rw (h n (omega arith)) (any-none n p (λ e l. h e (omega arith)))
+
+pub any-ext : (n : ℕ) (p q : ℕ → Bool) → ((e : ℕ) → e < n → p e ≡ q e) → anyBelow n p ≡ anyBelow n q
+unfolding anyBelow
+any-ext zero p q h = refl
+any-ext (suc n) p q h = ap₂ _||_ (h n (omega arith)) (any-ext n p q (λ e l. h e (omega arith)))
+
+-- a comprehension is empty exactly if nothing below n passes its test
+pub empty-is : (n : ℕ) (p : ℕ → Bool) → isEmpty (setOf n p) ≡ not (anyBelow n p)
+empty-is n p = step (anyBelow n p) refl
+  where
+    step : (b : Bool) → anyBelow n p ≡ b → isEmpty (setOf n p) ≡ not b
+    step true q =
+        let r = any-out n p (rw q tt) in
+        ne-eqb (setOf n p) 0 (member-nonzero (setOf n p) (r .0) (setOf-in n p (r .0) (r .1) (r .2)))
+    step false q = eq-eqb (setOf n p) 0 (setOf-empty n p (λ e l t. rw q at (any-in n p e l t)))
+
 -- two digits that test alike are equal
 same-digit : (x y : ℕ) → x < 2 → y < 2 → eqb x 1 ≡ eqb y 1 → x ≡ y
 same-digit x y hx hy q = step (ℕ-discrete x 1) (ℕ-discrete y 1)
@@ -145,12 +174,10 @@ has-ext (suc n) s t hs ht h =
     let p = same-digit (s % 2) (t % 2) (omega arith) (omega arith) (h zero (omega arith)) in
     omega arith
 
-same-test : (a b : Bool) → (T a → T b) → (T b → T a) → a ≡ b
-same-test true true f g = refl
-same-test true false f g = absurd (f tt)
-same-test false true f g = absurd (g tt)
-same-test false false f g = refl
-
 pub members-ext : (n s t : ℕ) → s < 2 ^ n → t < 2 ^ n
     → ((e : ℕ) → e < n → T (has s e) → T (has t e)) → ((e : ℕ) → e < n → T (has t e) → T (has s e)) → s ≡ t
 members-ext n s t hs ht f g = has-ext n s t hs ht (λ e l. same-test (has s e) (has t e) (f e l) (g e l))
+
+-- a set below 2 ^ n is the comprehension of its own members
+pub setOf-self : (n s : ℕ) → s < 2 ^ n → s ≡ setOf n (has s)
+setOf-self n s h = has-ext n s (setOf n (has s)) h (setOf-below n (has s)) (λ e l. sym (setOf-has n (has s) e l))

@@ -111,7 +111,7 @@ insert-in x (y ∷ ys) z h = at (ltb x y) (eqb x y) refl (insert-in x ys z) h
     at false false e ih (inl q) = List·Memᴰ·tail (ih (inl q))
     at false false e ih (inr g) = ⊎-elim List·Memᴰ·head (λ k. List·Memᴰ·tail (ih (inr k))) (List·Memᴰ·cases-cons g)
 
-insert-ascending : (x : ℕ) (ys : List ℕ) → Ascending ys → Ascending (insertAt x ys)
+pub insert-ascending : (x : ℕ) (ys : List ℕ) → Ascending ys → Ascending (insertAt x ys)
 unfolding insertAt Ascending
 insert-ascending x [] a = (λ y h. absurd (List·Memᴰ·not-nil h), tt)
 insert-ascending x (y ∷ ys) a = at (ltb x y) (eqb x y) refl refl (insert-ascending x ys (a .1))

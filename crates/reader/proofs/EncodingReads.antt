@@ -19,7 +19,7 @@ use Rattle.records.specs.declared.Progress.{Progress}
 use Rattle.records.specs.Kinds.{sizeOf}
 use Rattle.records.specs.Bytes.{AreBytes, bytesOf}
 use Rattle.records.specs.Records.{headerRecord, endRecord}
-use Rattle.records.specs.Progress.{start, usedWith, takeRecord}
+use Rattle.records.specs.Progress.{start}
 use Rattle.records.specs.FirstHit.{firstHit}
 use Rattle.records.proofs.MayStand.{header-met, end-met}
 use Rattle.records.proofs.Passes.{met-in}
@@ -32,11 +32,13 @@ use Rattle.reader.specs.Encoding.{encode, Encodable}
 use Rattle.reader.proofs.Readings.{readable-in}
 use Rattle.reader.proofs.Records.{EndsOnce}
 use Rattle.reader.proofs.OneEncoding.{bytes-append, with-end}
-use Rattle.reader.proofs.Passes.{after, after-append, Passes, passes-join, runs-in}
+use Rattle.reader.proofs.Passes.{after, Passes, passes-join, runs-in}
+use Rattle.reader.proofs.Stages.{behindHeader, behindMachines, behindNodes, records-read, header-read}
+use Rattle.reader.proofs.Stages.{machines-read, nodes-read, events-known, machines-known, no-node-yet}
 use Rattle.reader.proofs.StepPhase.{Back}
-use Rattle.reader.proofs.MachinePhase.{AfterMachines, after-machines, MachineGood, machines-in}
+use Rattle.reader.proofs.MachinePhase.{MachineGood, machines-in}
 use Rattle.reader.proofs.Ranges.{covers-in}
-use Rattle.reader.proofs.NodeAfter.{AfterNodes, after-nodes, used-nodes}
+use Rattle.reader.proofs.NodeAfter.{used-nodes}
 use Rattle.reader.proofs.NodePhase.{NodeFilled, NodesFit, nodes-free}
 use Rattle.reader.proofs.NodesPass.{nodes-in}
 use Rattle.reader.proofs.Size.{encode-size}
@@ -47,26 +49,11 @@ use Rattle.reader.proofs.EncodedBytes.{bytes-cons, bytes-both, bytes-tw
 use Rattle.reader.proofs.EncodedBytes.{nodes-bytes}
 
 module _ (M : Model) (e : Encodable M) where
-  -- what is read behind the header, the machines, the nodes
-  g1 : Progress
-  g1 = takeRecord start (headerRecord (M .events))
-
-  g2 : Progress
-  g2 = after g1 (flatMap recordsOfMachine (M .machines))
-
-  g3 : Progress
-  g3 = after g2 (map recordOfNode (M .nodes))
-
   few-events : M .events ≤ 16
   few-events = e .within-limits .events-limit .1
 
   some-events : M .events ≢ 0
   some-events q = omega (arith, e .within-limits .events-limit .0)
-
-  header-numbers : (g1 .n ≡ M .events) × (g1 .machines ≡ 0) × (g1 .steps ≡ 0) × (g1 .nodes ≡ 0) × (g1 .leaves ≡ 0)
-      × (g1 .used ≡ 0)
-  unfolding g1 takeRecord usedWith start
-  header-numbers = (refl, refl, refl, refl, refl, refl)
 
   header-passes : firstHit start (headerRecord (M .events)) (sizeOf 1) ≡ 0
   unfolding start
@@ -74,9 +61,9 @@ module _ (M : Model) (e : Encodable M) where
       met-in start (headerRecord (M .events))
       (header-met refl (record { first = refl; least = e .within-limits .events-limit .0; most = few-events }))
 
-  good : (m : Machine) → List·Memᴰ m (M .machines) → MachineGood (g1 .n) m
+  good : (m : Machine) → List·Memᴰ m (M .machines) → MachineGood ((behindHeader M) .n) m
   good m k =
-      rw (header-numbers .0)
+      rw (header-read M .n-read)
       (record {
         formed = e .well-formed .machine-formed m k;
         most-states = e .within-limits .states-limit m k .1;
@@ -84,32 +71,15 @@ module _ (M : Model) (e : Encodable M) where
         eight = e .within-limits .machine-events-limit m k;
       })
 
-  machines-pass : Passes g1 (flatMap recordsOfMachine (M .machines))
+  machines-pass : Passes (behindHeader M) (flatMap recordsOfMachine (M .machines))
   machines-pass =
-      machines-in (M .machines) g1 (λ q. some-events (sym (header-numbers .0) ∙ q))
-      (omega (arith, header-numbers .0, few-events))
-      (header-numbers .3) (omega (arith, header-numbers .1, e .within-limits .machines-limit .1))
-      (omega (arith, header-numbers .2, e .within-limits .steps-limit)) good
+      machines-in (M .machines) (behindHeader M) (λ q. some-events (sym (header-read M .n-read) ∙ q))
+      (omega (arith, header-read M .n-read, few-events))
+      (header-read M .no-node) (omega (arith, header-read M .no-machine, e .within-limits .machines-limit .1))
+      (omega (arith, header-read M .no-step, e .within-limits .steps-limit)) good
 
-  a : AfterMachines g1 (M .machines) g2
-  unfolding g2
-  a = after-machines (M .machines) g1
-
-  b : AfterNodes g2 (M .nodes) (M .machines) g3
-  unfolding g3
-  b = after-nodes (M .nodes) g2 (M .machines)
-
-  n2 : g2 .n ≡ M .events
-  n2 = a .n-same ∙ header-numbers .0
-
-  machines2 : g2 .machines ≡ length (M .machines)
-  machines2 = a .machines-more ∙ omega (arith, header-numbers .1)
-
-  nodes2 : g2 .nodes ≡ 0
-  nodes2 = a .nodes-same ∙ header-numbers .3
-
-  unused2 : (k : ℕ) → has (g2 .used) k ≡ false
-  unused2 k = ap (λ (u : ℕ). has u k) (a .used-same ∙ header-numbers .5) ∙ has-empty k
+  unused2 : (k : ℕ) → has ((behindMachines M) .used) k ≡ false
+  unused2 k = ap (λ (u : ℕ). has u k) (machines-read M .used-same ∙ header-read M .none-used) ∙ has-empty k
 
   filled : (x : Node) → List·Memᴰ x (M .nodes) → NodeFilled (M .events) x
   unfolding NodeFilled
@@ -133,28 +103,30 @@ module _ (M : Model) (e : Encodable M) where
       go (no h) =
           omega (arith, late-nodes (M .events) (length (M .machines)) 0 (M .nodes) k fit (omega (arith, h)))
 
-  nodes-pass : Passes g2 (map recordOfNode (M .nodes))
+  nodes-pass : Passes (behindMachines M) (map recordOfNode (M .nodes))
   unfolding leafMachines
   nodes-pass =
-      nodes-in (M .nodes) g2 (M .machines) (λ q. some-events (sym n2 ∙ q))
-      (λ q. omega (arith, machines2, e .within-limits .machines-limit .0)) (omega (arith, n2, few-events))
-      (omega (arith, nodes2, e .within-limits .nodes-limit .1))
-      (omega (arith, a .leaves-same, header-numbers .4, e .within-limits .leaves-limit .1))
-      (rw (n2, machines2, nodes2) fit)
+      nodes-in (M .nodes) (behindMachines M) (M .machines) (λ q. some-events (sym (events-known M) ∙ q))
+      (λ q. omega (arith, (machines-known M), e .within-limits .machines-limit .0))
+      (omega (arith, (events-known M), few-events))
+      (omega (arith, (no-node-yet M), e .within-limits .nodes-limit .1))
+      (omega (arith, machines-read M .leaves-same, header-read M .no-leaf, e .within-limits .leaves-limit .1))
+      (rw ((events-known M), (machines-known M), (no-node-yet M)) fit)
       (λ k h. rw (unused2 k) (omega (arith, once k)))
 
-  used3 : (k : ℕ) → k < room → digit (has (g3 .used) k) ≡ times k (flatMap operands (M .nodes))
-  unfolding g3
+  used3 : (k : ℕ) → k < room → digit (has ((behindNodes M) .used) k) ≡ times k (flatMap operands (M .nodes))
+  unfolding behindNodes
   used3 k h =
-      let f = nodes-free (M .nodes) g2 (omega (arith, nodes2, e .within-limits .nodes-limit .1)) nodes-pass in
-      used-nodes (M .nodes) g2 f k h ∙ rw (unused2 k) (omega arith)
+      let f = nodes-free (M .nodes) (behindMachines M)
+      (omega (arith, (no-node-yet M), e .within-limits .nodes-limit .1)) nodes-pass in
+      used-nodes (M .nodes) (behindMachines M) f k h ∙ rw (unused2 k) (omega arith)
 
-  all-used : (k : ℕ) → k < g3 .nodes - 1 → T (has (g3 .used) k)
+  all-used : (k : ℕ) → k < (behindNodes M) .nodes - 1 → T (has ((behindNodes M) .used) k)
   all-used k h =
-      let l : suc k < length (M .nodes) = omega (arith, b .nodes-more, nodes2) in
-      let q : digit (has (g3 .used) k) ≡ 1 =
+      let l : suc k < length (M .nodes) = omega (arith, nodes-read M .nodes-more, (no-node-yet M)) in
+      let q : digit (has ((behindNodes M) .used) k) ≡ 1 =
       used3 k (omega (arith, e .within-limits .nodes-limit .1)) ∙ e .well-formed .used-once k l in
-      yes-digit (has (g3 .used) k) q
+      yes-digit (has ((behindNodes M) .used) k) q
     where
       yes-digit : (b : Bool) → digit b ≡ 1 → T b
       yes-digit true q = tt
@@ -184,40 +156,37 @@ module _ (M : Model) (e : Encodable M) where
         ),
       )
 
-  g3-is : after start (modelRecords M) ≡ g3
-  unfolding after modelRecords g1 g2 g3
-  g3-is = after-append (flatMap recordsOfMachine (M .machines)) (map recordOfNode (M .nodes)) g1
-
-  end-passes : firstHit g3 (endRecord (length body)) (sizeOf 8) ≡ 0
+  end-passes : firstHit (behindNodes M) (endRecord (length body)) (sizeOf 8) ≡ 0
   unfolding body start
   end-passes =
       let p : after start (modelRecords M) .place ≡ 0 + length (bytesOfAll (modelRecords M)) =
       after-place (modelRecords M) start (records-fine .1) in
-      let q : g3 .place ≡ length (bytesOfAll (modelRecords M)) = sym (ap (λ (x : Progress). x .place) g3-is) ∙ p
+      let q : (behindNodes M) .place ≡ length (bytesOfAll (modelRecords M)) =
+      sym (ap (λ (x : Progress). x .place) (records-read M)) ∙ p
       ∙ omega arith in
-      met-in g3 (endRecord (length (bytesOfAll (modelRecords M))))
+      met-in (behindNodes M) (endRecord (length (bytesOfAll (modelRecords M))))
       (end-met refl
       (record {
-        has-header = λ z. some-events (sym (b .n-same ∙ n2) ∙ z);
-        some-node = λ z. omega (arith, b .nodes-more, nodes2, e .within-limits .nodes-limit .0);
+        has-header = λ z. some-events (sym (nodes-read M .n-same ∙ (events-known M)) ∙ z);
+        some-node = λ z. omega (arith, nodes-read M .nodes-more, (no-node-yet M), e .within-limits .nodes-limit .0);
         counted = sym q;
-        all-used = covers-in (g3 .nodes - 1) (g3 .used) all-used;
+        all-used = covers-in ((behindNodes M) .nodes - 1) ((behindNodes M) .used) all-used;
       }))
 
   all : List Record
   all = modelRecords M ++ (endRecord (length body) ∷ [])
 
   all-pass : Passes start all
-  unfolding all Passes modelRecords g1 g2
+  unfolding all Passes modelRecords behindHeader behindMachines
   all-pass =
       passes-join (modelRecords M) (endRecord (length body) ∷ []) start (
         header-passes,
-        passes-join (flatMap recordsOfMachine (M .machines)) (map recordOfNode (M .nodes)) g1
+        passes-join (flatMap recordsOfMachine (M .machines)) (map recordOfNode (M .nodes)) (behindHeader M)
             machines-pass nodes-pass,
       )
-      (last (sym g3-is) (end-passes, tt))
+      (last (sym (records-read M)) (end-passes, tt))
     where
-      last : {g : Progress} → g3 ≡ g → Passes g3 (endRecord (length body) ∷ [])
+      last : {g : Progress} → (behindNodes M) ≡ g → Passes (behindNodes M) (endRecord (length body) ∷ [])
           → Passes g (endRecord (length body) ∷ [])
       last q p = rw (← q) p
 

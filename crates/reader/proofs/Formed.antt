@@ -14,12 +14,11 @@ use Rattle.network.specs.Model.{Node, leafNode, joinNode, hideNode, renameNode,
 use Rattle.network.specs.Model.{ownMachine, leafMachines, WellFormed}
 use Rattle.network.specs.Limits.{WithinLimits}
 use Rattle.records.specs.declared.Record.{Record}
-use Rattle.records.specs.declared.Progress.{Progress}
 use Rattle.records.specs.Kinds.{sizeOf, stepKind, machineKind, is}
 use Rattle.records.specs.Bytes.{AreBytes}
 use Rattle.records.specs.Records.{headerRecord, endRecord}
-use Rattle.records.specs.Progress.{start, usedWith, takeRecord}
-use Rattle.records.proofs.Choices.{yes-true}
+use Rattle.records.specs.Progress.{start}
+use Rattle.events.proofs.Booleans.{yes-true}
 use Rattle.records.proofs.Passing.{passed-out}
 use Rattle.records.proofs.MayStand.{HeaderMet, EndMet}
 use Rattle.records.proofs.Meeting.{header-out, end-out}
@@ -31,12 +30,15 @@ use Rattle.reader.proofs.Turns.{positive}
 use Rattle.reader.proofs.Plain.{AllPlain}
 use Rattle.reader.proofs.Listing.{code-back}
 use Rattle.reader.proofs.OneEncoding.{file-listing}
-use Rattle.reader.proofs.Passes.{after, after-append, Passes, passes-split, runs-out, counts-after}
+use Rattle.reader.proofs.Passes.{Passes, passes-split, runs-out, counts-after}
 use Rattle.reader.proofs.Passes.{counts-start}
+use Rattle.reader.proofs.Stages.{behindHeader, behindMachines, behindNodes, records-read, header-read}
+use Rattle.reader.proofs.Stages.{machines-read, nodes-read, events-known, machines-known, no-node-yet}
+use Rattle.reader.proofs.Stages.{nodes-known}
 use Rattle.reader.proofs.StepPhase.{Back, all-cons}
-use Rattle.reader.proofs.MachinePhase.{AfterMachines, after-machines, MachineGood, machines-out}
+use Rattle.reader.proofs.MachinePhase.{MachineGood, machines-out}
 use Rattle.reader.proofs.Ranges.{covers-out}
-use Rattle.reader.proofs.NodeAfter.{AfterNodes, after-nodes, used-nodes}
+use Rattle.reader.proofs.NodeAfter.{used-nodes}
 use Rattle.reader.proofs.NodePhase.{NodeFilled, NodesFit, nodes-out, nodes-free}
 
 -- a label that was read comes back
@@ -85,16 +87,6 @@ plain-split (r ∷ rs) qs p = let i = plain-split rs qs (p .1) in ((p .0, i .0),
 module _ (M : Model) (x : ℕ) (w : Passes start (modelRecords M ++ (endRecord x ∷ [])))
     (plain : AllPlain (modelRecords M))
     (back : (m : Machine) → List·Memᴰ m (M .machines) → (x : Step) → List·Memᴰ x (m .steps) → Back x) where
-  -- what is read behind the header, the machines, the nodes
-  g1 : Progress
-  g1 = takeRecord start (headerRecord (M .events))
-
-  g2 : Progress
-  g2 = after g1 (flatMap recordsOfMachine (M .machines))
-
-  g3 : Progress
-  g3 = after g2 (map recordOfNode (M .nodes))
-
   body-passes : Passes start (modelRecords M)
   body-passes = passes-split (modelRecords M) (endRecord x ∷ []) start w .0
 
@@ -104,58 +96,32 @@ module _ (M : Model) (x : ℕ) (w : Passes start (modelRecords M ++ (endRecord x
       let r = headerRecord (M .events) in
       header-out start r (sizeOf (r .kind)) (passed-out start r (sizeOf (r .kind)) (body-passes .0)) refl
 
-  parts : Passes g1 (flatMap recordsOfMachine (M .machines)) × Passes g2 (map recordOfNode (M .nodes))
-  unfolding Passes modelRecords g1 g2
-  parts = passes-split (flatMap recordsOfMachine (M .machines)) (map recordOfNode (M .nodes)) g1 (body-passes .1)
+  parts : Passes (behindHeader M) (flatMap recordsOfMachine (M .machines))
+      × Passes (behindMachines M) (map recordOfNode (M .nodes))
+  unfolding Passes modelRecords behindHeader behindMachines
+  parts = passes-split (flatMap recordsOfMachine (M .machines)) (map recordOfNode (M .nodes)) (behindHeader M)
+      (body-passes .1)
 
-  g3-is : after start (modelRecords M) ≡ g3
-  unfolding after modelRecords g1 g2 g3
-  g3-is = after-append (flatMap recordsOfMachine (M .machines)) (map recordOfNode (M .nodes)) g1
-
-  end : EndMet g3 (endRecord x)
+  end : EndMet (behindNodes M) (endRecord x)
   unfolding Passes
   end =
       let r = endRecord x in
-      let q : Passes g3 (r ∷ []) = rw g3-is at (passes-split (modelRecords M) (r ∷ []) start w .1) in
-      end-out g3 r (sizeOf (r .kind)) (passed-out g3 r (sizeOf (r .kind)) (q .0)) refl
+      let q : Passes (behindNodes M) (r ∷ []) =
+      rw (records-read M) at (passes-split (modelRecords M) (r ∷ []) start w .1) in
+      end-out (behindNodes M) r (sizeOf (r .kind)) (passed-out (behindNodes M) r (sizeOf (r .kind)) (q .0)) refl
 
-  a : AfterMachines g1 (M .machines) g2
-  unfolding g2
-  a = after-machines (M .machines) g1
-
-  b : AfterNodes g2 (M .nodes) (M .machines) g3
-  unfolding g3
-  b = after-nodes (M .nodes) g2 (M .machines)
-
-  counts : Counts g3
-  counts = let c = counts-after (modelRecords M) start body-passes counts-start in rw g3-is at c
-
-  -- the numbers behind the header, and behind the machines
-  header-numbers : (g1 .n ≡ M .events) × (g1 .machines ≡ 0) × (g1 .steps ≡ 0) × (g1 .nodes ≡ 0) × (g1 .leaves ≡ 0)
-      × (g1 .used ≡ 0)
-  unfolding g1 takeRecord usedWith start
-  header-numbers = (refl, refl, refl, refl, refl, refl)
-
-  n2 : g2 .n ≡ M .events
-  n2 = a .n-same ∙ header-numbers .0
-
-  machines2 : g2 .machines ≡ length (M .machines)
-  machines2 = a .machines-more ∙ omega (arith, header-numbers .1)
-
-  nodes2 : g2 .nodes ≡ 0
-  nodes2 = a .nodes-same ∙ header-numbers .3
-
-  nodes3 : g3 .nodes ≡ length (M .nodes)
-  nodes3 = b .nodes-more ∙ omega (arith, nodes2)
+  counts : Counts (behindNodes M)
+  counts = let c = counts-after (modelRecords M) start body-passes counts-start in rw (records-read M) at c
 
   few-events : M .events ≤ 16
   few-events = header .most
 
   good : (m : Machine) → List·Memᴰ m (M .machines) → MachineGood (M .events) m
   good m k =
-      let f : MachineGood (g1 .n) m =
-      machines-out (M .machines) g1 (omega (arith, header-numbers .0, few-events)) back (parts .0) m k in
-      rw (header-numbers .0) at f
+      let f : MachineGood ((behindHeader M) .n) m =
+      machines-out (M .machines) (behindHeader M) (omega (arith, header-read M .n-read, few-events)) back (parts .0) m
+      k in
+      rw (header-read M .n-read) at f
 
   nodes-plain : AllPlain (map recordOfNode (M .nodes))
   unfolding AllPlain modelRecords
@@ -163,30 +129,33 @@ module _ (M : Model) (x : ℕ) (w : Passes start (modelRecords M ++ (endRecord x
 
   fit : NodesFit (M .events) (length (M .machines)) 0 (M .nodes)
   fit =
-      let f : NodesFit (g2 .n) (g2 .machines) (g2 .nodes) (M .nodes) =
-      nodes-out (M .nodes) g2 (omega (arith, n2, few-events)) nodes-plain (parts .1) in
-      rw (n2, machines2, nodes2) at f
+      let f : NodesFit ((behindMachines M) .n) ((behindMachines M) .machines) ((behindMachines M) .nodes) (M .nodes) =
+      nodes-out (M .nodes) (behindMachines M) (omega (arith, (events-known M), few-events)) nodes-plain (parts .1) in
+      rw ((events-known M), (machines-known M), (no-node-yet M)) at f
 
   some-nodes : 0 < length (M .nodes)
-  some-nodes = positive (length (M .nodes)) (λ q. end .some-node (nodes3 ∙ q))
+  some-nodes = positive (length (M .nodes)) (λ q. end .some-node ((nodes-known M) ∙ q))
 
   one-leaf : (1 ≤ length (M .machines)) × (1 ≤ length (flatMap (ownMachine (M .machines)) (M .nodes)))
   one-leaf =
       first-leaf (M .events) (length (M .machines)) (M .nodes) (M .machines) some-nodes (fit .formed 0 some-nodes)
 
-  used3 : (k : ℕ) → k < room → digit (has (g3 .used) k) ≡ times k (flatMap operands (M .nodes))
-  unfolding g3
+  used3 : (k : ℕ) → k < room → digit (has ((behindNodes M) .used) k) ≡ times k (flatMap operands (M .nodes))
+  unfolding behindNodes
   used3 k h =
-      let z : has (g2 .used) k ≡ false = ap (λ (u : ℕ). has u k) (a .used-same ∙ header-numbers .5) ∙ has-empty k in
-      let f = nodes-free (M .nodes) g2 (omega (arith, nodes2, nodes3, counts .nodes-most)) (parts .1) in
-      used-nodes (M .nodes) g2 f k h ∙ rw z (omega arith)
+      let z : has ((behindMachines M) .used) k ≡ false =
+      ap (λ (u : ℕ). has u k) (machines-read M .used-same ∙ header-read M .none-used) ∙ has-empty k in
+      let f = nodes-free (M .nodes) (behindMachines M)
+      (omega (arith, (no-node-yet M), (nodes-known M), counts .nodes-most)) (parts .1) in
+      used-nodes (M .nodes) (behindMachines M) f k h ∙ rw z (omega arith)
 
   once : (k : ℕ) → suc k < length (M .nodes) → times k (flatMap operands (M .nodes)) ≡ 1
   once k h =
-      let l : k < g3 .nodes - 1 = omega (arith, nodes3) in
-      let t : T (has (g3 .used) k) =
-      covers-out (g3 .nodes - 1) (g3 .used) (omega (arith, counts .nodes-most)) (end .all-used) k l in
-      sym (used3 k (omega (arith, counts .nodes-most))) ∙ ap digit (yes-true (has (g3 .used) k) t)
+      let l : k < (behindNodes M) .nodes - 1 = omega (arith, (nodes-known M)) in
+      let t : T (has ((behindNodes M) .used) k) =
+      covers-out ((behindNodes M) .nodes - 1) ((behindNodes M) .used) (omega (arith, counts .nodes-most))
+      (end .all-used) k l in
+      sym (used3 k (omega (arith, counts .nodes-most))) ∙ ap digit (yes-true (has ((behindNodes M) .used) k) t)
 
   formed : WellFormed M
   formed =
@@ -202,13 +171,31 @@ module _ (M : Model) (x : ℕ) (w : Passes start (modelRecords M ++ (endRecord x
   limits =
       record {
         events-limit = (header .least, header .most);
-        machines-limit = (one-leaf .0, omega (arith, counts .machines-most, b .machines-same, machines2));
+        machines-limit =
+            (one-leaf .0, omega (arith, counts .machines-most, nodes-read M .machines-same, (machines-known M)));
         states-limit = λ m k. (good m k .formed .some-state, good m k .most-states);
-        steps-limit = omega (arith, counts .steps-most, b .steps-same, a .steps-more, header-numbers .2);
+        steps-limit =
+            omega (
+              arith,
+              counts .steps-most,
+              nodes-read M .steps-same,
+              machines-read M .steps-more,
+              header-read
+                  M .no-step,
+            );
         machine-events-limit = λ m k. good m k .eight;
-        nodes-limit = (some-nodes, omega (arith, counts .nodes-most, nodes3));
-        leaves-limit =
-            (one-leaf .1, omega (arith, counts .leaves-most, b .leaves-more, a .leaves-same, header-numbers .4));
+        nodes-limit = (some-nodes, omega (arith, counts .nodes-most, (nodes-known M)));
+        leaves-limit = (
+          one-leaf .1,
+          omega (
+            arith,
+            counts .leaves-most,
+            nodes-read M .leaves-more,
+            machines-read M .leaves-same,
+            header-read
+                M .no-leaf,
+          ),
+        );
       }
 
   pub passes-encodable : Encodable M

@@ -17,6 +17,7 @@ pub mod Ranges
 pub mod NodeAfter
 pub mod NodePhase
 pub mod NodesPass
+pub mod Stages
 pub mod Formed
 pub mod Size
 pub mod ScanBack

@@ -6,7 +6,7 @@ use mathlib.Core.List.{List·Memᴰ·not-nil}
 use Prim.Native.Nat.{ℕ, zero, suc, _+_, _≤_, _<_}
 use native.Mathlib.Omega.{arith}
 use lib.ListN.{length, getD}
-use Rattle.network.specs.Model.{Node, leafNode, joinNode, hideNode, renameNode, NodeFormed, operands}
+use Rattle.network.specs.Model.{Node, leafNode, joinNode, hideNode, renameNode, NodeFormed}
 use Rattle.records.specs.declared.Progress.{Progress}
 use Rattle.records.specs.Kinds.{sizeOf}
 use Rattle.records.specs.Records.{leafRecord, joinRecord, hideRecord, renameRecord}

@@ -4,7 +4,7 @@ use mathlib.Core.Path.{_≡_, refl, sym, ap, _∙_}
 use mathlib.Core.Bool.{Bool, true, false, not, _&&_, _||_}
 use mathlib.Core.Logic.{_≢_}
 use mathlib.Core.List.{List, [], _∷_}
-use Prim.Native.Nat.{ℕ, zero, suc, _+_, _-_, _^_, _≤_, _<_, min}
+use Prim.Native.Nat.{ℕ, zero, suc, _+_, _^_, _≤_, _<_, min}
 use native.Mathlib.Omega.{arith}
 use native.Mathlib.Decide.{decLt}
 use lib.Dec.{T, ltb, leb, eqb}
@@ -14,10 +14,11 @@ use Rattle.events.specs.Sets.{room, has, digit, full, included}
 use Rattle.events.proofs.Members.{member-below, below-of-members, setOf-below}
 use Rattle.events.proofs.Operations.{full-in}
 use Rattle.events.proofs.Tests.{included-iff}
+use Rattle.events.proofs.Booleans.{yes-true}
 use Rattle.network.specs.Network.{TargetsBelow}
 use Rattle.records.specs.Progress.{with}
 use Rattle.records.specs.Ranges.{wrongSet, wrongTarget, wrongTargets}
-use Rattle.records.proofs.Choices.{or-none, and-none, yes-true, true-yes, or-false}
+use Rattle.records.proofs.Choices.{or-none, and-none, true-yes, or-false}
 use Rattle.reader.specs.Encoding.{TargetsFilled}
 use Rattle.reader.proofs.StepEvents.{with-has}
 

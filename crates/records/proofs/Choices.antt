@@ -38,10 +38,6 @@ pub or-assoc : (a b c : Bool) → ((a || b) || c) ≡ (a || (b || c))
 or-assoc true b c = refl
 or-assoc false b c = refl
 
-pub and-false : (b : Bool) → (b && false) ≡ false
-and-false true = refl
-and-false false = refl
-
 -- a test behind a condition does not hit: not where the condition holds, and not at all where it does not
 pub and-none : (a b : Bool) → (a && b) ≡ false → a ≡ true → b ≡ false
 and-none true b q p = q
@@ -50,17 +46,9 @@ and-none false b q p = absurd (true-not-false (let z : true ≡ false = cc in z)
 pub none-and : (a b : Bool) → a ≡ false → (a && b) ≡ false
 none-and a b p = rw p
 
-pub yes-true : (b : Bool) → T b → b ≡ true
-yes-true true t = refl
-yes-true false t = absurd t
-
 pub true-yes : (b : Bool) → b ≡ true → T b
 true-yes true q = tt
 true-yes false q = absurd (true-not-false (let z : true ≡ false = cc in z))
-
-pub no-false : (b : Bool) → (T b → ⊥) → b ≡ false
-no-false true h = absurd (h tt)
-no-false false h = refl
 
 pub false-no : (b : Bool) → b ≡ false → T b → ⊥
 false-no false q t = t

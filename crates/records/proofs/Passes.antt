@@ -8,13 +8,13 @@ use native.Mathlib.Omega.{arith}
 use lib.Dec.{ltb, leb, eqb}
 use borrow.Author.Tests.{eq-eqb, ne-eqb, le-ltb, lt-leb}
 use Rattle.events.specs.Sets.{room, count}
+use Rattle.events.proofs.Booleans.{and-false}
 use Rattle.records.specs.declared.Record.{Record}
 use Rattle.records.specs.declared.Progress.{Progress}
 use Rattle.records.specs.Kinds.{bodyLength, sizeOf, silentLabel}
 use Rattle.records.specs.Progress.{keyOf, with}
 use Rattle.records.specs.Tests.{notFree}
 use Rattle.records.specs.FirstHit.{firstHit}
-use Rattle.records.proofs.Choices.{and-false}
 use Rattle.records.proofs.Passing.{Passed, passed-in}
 use Rattle.records.proofs.MayStand.{Met, Free, header-met, machine-met, step-met, leaf-met, join-met, hide-met}
 use Rattle.records.proofs.MayStand.{rename-met, end-met}

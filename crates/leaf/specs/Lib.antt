@@ -1,0 +1,4 @@
+pub mod Steps
+pub mod Table
+pub mod Subsets
+pub mod Promise
