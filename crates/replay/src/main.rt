@@ -1,23 +1,157 @@
-// Each argument names a file: a line is printed with the name and what the reader says of the file's bytes.
+// Each argument names a file. Its analysis in an area with room to spare, filled with aaaaaaaa: the answer, how many
+// entries are zero and how many untouched, and after a pass the pairs of each section; then in an area of just the
+// needed size, whose sections must be the same; then in one that is an entry short.
+ghost use Prim.Native.Nat.{_≤_};
+use analysis::Answer;
 use reader::Reading;
 
-// What the reader said, in document 01's words and numbers.
-fn print_answer(v: Reading) {
-    match v {
-        Reading::Readable(_) => {
-            io::write_all(1, b" readable\n");
+// The answer, in document 01's words and numbers; whether it is a pass.
+fn print_answer(a: Answer) -> bool {
+    match a {
+        Answer::Pass(p) => {
+            io::write_all(1, b" pass ");
+            io::print_decimal(1, p.bound);
+            true
         }
-        Reading::Unreadable(f) => {
+        Answer::Inconclusive(k) => {
+            io::write_all(1, b" inconclusive ");
+            io::print_decimal(1, k as u64);
+            false
+        }
+        Answer::Refused(f) => {
             io::write_all(1, b" refused ");
             io::print_decimal(1, f.number as u64);
             io::write_all(1, b" ");
             io::print_decimal(1, f.place as u64);
-            io::write_all(1, b"\n");
+            false
         }
     }
 }
 
-// The line for argument k. One byte more than a file may have is room enough: a longer file fills it too.
+// The pairs of a list, up to the zeros behind them.
+fn print_pairs(section: &[u32]) {
+    let mut i = 0;
+    while i < section.len() {
+        let entry = section[i] as u64;
+        if entry == 0 {
+            return;
+        }
+        io::write_all(1, b" ");
+        io::print_hex(1, entry, 8);
+        i += 1;
+    }
+}
+
+// A line for each section: its pairs.
+fn print_sections(sections: &[u32]) {
+    let mut at = 0;
+    while 256 <= sections.len() - at {
+        io::write_all(1, b"list");
+        print_pairs(&sections[at..at + 256]);
+        io::write_all(1, b"\n");
+        at += 256;
+    }
+}
+
+// 1 for two equal entries, otherwise 0.
+fn equal(x: u32, y: u32) -> usize
+    ensures { λ r. ⌜ r ≤ 1 ⌝ }
+{
+    if x == y {
+        return 1;
+    }
+    0
+}
+
+// How many entries of the area are x.
+fn count_of(area: &[u32], x: u32) -> usize {
+    let mut count = 0;
+    let mut i = 0;
+    while i < area.len() {
+        count += equal(area[i], x);
+        i += 1;
+    }
+    count
+}
+
+// Whether two areas have the same entries.
+fn is_same(a: &[u32], b: &[u32]) -> bool {
+    if a.len() != b.len() {
+        return false;
+    }
+    let mut i = 0;
+    while i < a.len() {
+        if a[i] != b[i] {
+            return false;
+        }
+        i += 1;
+    }
+    true
+}
+
+// How many entries of the area are zero, and how many still aaaaaaaa.
+fn print_counts(area: &[u32]) {
+    io::write_all(1, b" zero ");
+    io::print_decimal(1, count_of(area, 0) as u64);
+    io::write_all(1, b" untouched ");
+    io::print_decimal(1, count_of(area, 2863311530) as u64);
+    io::write_all(1, b"\n");
+}
+
+// With room to spare: the answer, the counts and after a pass the lists.
+fn replay_spare(bytes: &[u8], needed: usize, area: &mut [u32]) {
+    let passed = print_answer(analysis::analyse(bytes, area));
+    print_counts(area);
+    if !passed {
+        return;
+    }
+    if needed <= area.len() {
+        print_sections(&area[..needed]);
+    }
+}
+
+// With just so much room.
+fn replay_room(bytes: &[u8], area: &mut [u32]) {
+    io::write_all(1, b"room ");
+    io::print_decimal(1, area.len() as u64);
+    print_answer(analysis::analyse(bytes, area));
+    print_counts(area);
+}
+
+// With just the room that the file needs: whether its sections become the wanted ones.
+fn replay_exact(bytes: &[u8], wanted: &[u32], area: &mut [u32]) {
+    replay_room(bytes, area);
+    if !is_same(area, wanted) {
+        io::write_all(1, b"differs\n");
+    }
+}
+
+// The analysis of a file whose sections have so many entries.
+fn replay_bytes(bytes: &[u8], needed: usize) {
+    let mut spare = [2863311530u32; 8448];
+    replay_spare(bytes, needed, &mut spare);
+    if needed == 0 {
+        return;
+    }
+    if needed > 8192 {
+        return;
+    }
+    let mut exact = [2863311530u32; 8192];
+    replay_exact(bytes, &spare[..needed], &mut exact[..needed]);
+    let mut short = [2863311530u32; 8192];
+    replay_room(bytes, &mut short[..needed - 1]);
+}
+
+// How many entries the sections of a file's nodes have; none if it is refused.
+fn needed_for(bytes: &[u8]) -> usize {
+    let v = reader::read(bytes);
+    match v {
+        Reading::Readable(g) => 256 * g.nodes as usize,
+        Reading::Unreadable(_) => 0,
+    }
+}
+
+// Argument k. One byte more than a file may have is room enough: a longer file fills it too.
 fn replay_one(k: usize) {
     let mut path = io::buffer();
     let length = os::arg(k, &mut path);
@@ -33,7 +167,8 @@ fn replay_one(k: usize) {
     let mut buffer = [0u8; 4097];
     let n = io::read_full(fd, &mut buffer);
     libc::close(fd);
-    print_answer(reader::read(&buffer[..n]));
+    let needed = needed_for(&buffer[..n]);
+    replay_bytes(&buffer[..n], needed);
 }
 
 fn main() {

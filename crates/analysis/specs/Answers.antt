@@ -1,0 +1,72 @@
+-- What the analysis of a file answers, and the working area that it leaves, for every input. Document 01, "Refusal
+-- numbers" and the working area. Assumes nothing.
+use mathlib.Core.Bool.{cond}
+use mathlib.Core.List.{List, _++_, flatMap}
+use Prim.Native.Nat.{ℕ, _*_}
+use lib.Dec.{ltb}
+use lib.ListN.{length, drop}
+use Rattle.network.specs.Network.{Network}
+use Rattle.network.specs.Model.{Model, networks}
+use Rattle.network.specs.Lists.{listOf}
+use Rattle.network.specs.Verdict.{Verdict, pass, inconclusive, refused, mostPairs, verdict}
+use Rattle.records.specs.FirstHit.{refusal}
+use Rattle.reader.specs.declared.Reading.{Reading}
+use Rattle.reader.specs.declared.Reading.the-variants.{Readable, Unreadable}
+use Rattle.reader.specs.Scan.{readingOf}
+use Rattle.reader.specs.File.{fileModel}
+use Rattle.lists.specs.Building.{zeros, padded}
+use Rattle.analysis.specs.declared.Answer.{Answer}
+use Rattle.analysis.specs.declared.Answer.the-variants.{Pass, Inconclusive, Refused}
+
+-- the answer that says a verdict
+unfoldable pub answerFor : Verdict → Answer
+answerFor (pass b) = Pass (record { bound = b })
+answerFor (inconclusive k) = Inconclusive k
+answerFor (refused number place) = Refused (refusal number place)
+
+-- document 01's verdict, with its numbers, for each answer
+unfoldable pub verdictOf : Answer → Verdict
+verdictOf (Pass p) = pass (p .bound)
+verdictOf (Inconclusive k) = inconclusive k
+verdictOf (Refused f) = refused (f .number) (f .place)
+
+-- how many entries the sections of model M's nodes have: 256 for each node
+unfoldable pub needed : Model → ℕ
+needed M = mostPairs * length (M .nodes)
+
+-- the sections of networks ts over n events, one behind another: each one's pairs ascending, then zeros
+unfoldable pub sectionsOf : ℕ → List Network → List ℕ
+sectionsOf n ts = flatMap (λ (t : Network). padded (listOf n t)) ts
+
+-- the sections of model M after a verdict: its nodes' lists after a pass, zeros after anything else
+unfoldable pub sectionsFor : Model → Verdict → List ℕ
+sectionsFor M (pass b) = sectionsOf (M .events) (networks M)
+sectionsFor M (inconclusive k) = zeros (needed M)
+sectionsFor M (refused number place) = zeros (needed M)
+
+-- the answer on a readable file's model M with a lent area: 13 where it is too short, else the verdict
+unfoldable pub passOf : Model → List ℕ → Answer
+passOf M area = cond (ltb (length area) (needed M)) (Refused (refusal 13 0)) (answerFor (verdict M))
+
+-- the area afterwards: as it was where it is too short, else the sections and the old entries behind them
+unfoldable pub sectionsAfter : Model → List ℕ → List ℕ
+sectionsAfter M area =
+    cond (ltb (length area) (needed M)) area (sectionsFor M (verdict M) ++ drop (needed M) area)
+
+-- the answer on the bytes s, read as far as the reading says, with a lent area
+unfoldable pub answerAt : Reading → List ℕ → List ℕ → Answer
+answerAt (Unreadable f) s area = Refused f
+answerAt (Readable g) s area = passOf (fileModel s) area
+
+-- the area afterwards
+unfoldable pub areaAt : Reading → List ℕ → List ℕ → List ℕ
+areaAt (Unreadable f) s area = area
+areaAt (Readable g) s area = sectionsAfter (fileModel s) area
+
+-- the answer on the file s with a lent area
+unfoldable pub analysisOf : List ℕ → List ℕ → Answer
+analysisOf s area = answerAt (readingOf s) s area
+
+-- the area that the analysis of the file s leaves
+unfoldable pub areaAfter : List ℕ → List ℕ → List ℕ
+areaAfter s area = areaAt (readingOf s) s area
