@@ -7,11 +7,11 @@ use native.Mathlib.Omega.{arith}
 use lib.Dec.{ltb}
 use lib.ListN.{length}
 use Rattle.records.specs.declared.Record.{Record}
-use Rattle.records.specs.declared.Progress.{Progress}
+use Rattle.progress.specs.declared.Progress.{Progress}
 use Rattle.records.specs.Kinds.{isNode}
 use Rattle.records.specs.Bytes.{firstRecord}
-use Rattle.records.specs.Progress.{start, takeRecord}
-use Rattle.records.specs.FirstHit.{refusal}
+use Rattle.progress.specs.Progress.{start, takeRecord}
+use Rattle.tests.specs.FirstHit.{refusal}
 use Rattle.reader.specs.declared.Scan.{Scan}
 use Rattle.reader.specs.declared.Scan.the-variants.{Stopped, Finished, Refused}
 use Rattle.reader.specs.declared.Reading.the-variants.{Readable, Unreadable}

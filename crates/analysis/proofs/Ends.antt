@@ -9,9 +9,9 @@ use lib.Seq.{length-take-le}
 use borrow.Author.Tests.{lt-ltb, le-ltb}
 use Rattle.network.specs.Model.{Model}
 use Rattle.network.specs.Verdict.{Verdict, pass, inconclusive, refused, verdict}
-use Rattle.records.specs.declared.Progress.{Progress}
-use Rattle.records.specs.declared.Refusal.{Refusal}
-use Rattle.records.specs.FirstHit.{refusal}
+use Rattle.progress.specs.declared.Progress.{Progress}
+use Rattle.tests.specs.declared.Refusal.{Refusal}
+use Rattle.tests.specs.FirstHit.{refusal}
 use Rattle.reader.specs.declared.Reading.{Reading}
 use Rattle.reader.specs.declared.Reading.the-variants.{Readable, Unreadable}
 use Rattle.reader.specs.Scan.{readingOf}

@@ -6,15 +6,15 @@ use Prim.Native.Nat.{ℕ, zero, suc, _≤_}
 use native.Mathlib.Omega.{arith}
 use lib.Dec.{ltb, eqb}
 use lib.ListN.{length, drop}
-use Rattle.records.specs.declared.Refusal.{Refusal}
+use Rattle.tests.specs.declared.Refusal.{Refusal}
 use Rattle.records.specs.declared.Record.{Record}
-use Rattle.records.specs.declared.Progress.{Progress}
+use Rattle.progress.specs.declared.Progress.{Progress}
 use Rattle.records.specs.Kinds.{sizeOf, endKind, is}
 use Rattle.records.specs.Bytes.{firstRecord}
-use Rattle.records.specs.Progress.{start, takeRecord}
-use Rattle.records.specs.Ranges.{outOfRange}
-use Rattle.records.specs.Tests.{badKind, cutShort, misplaced, tooMany, badOperand, notAbove, ninthEvent, badEnd}
-use Rattle.records.specs.FirstHit.{firstHit, refusal}
+use Rattle.progress.specs.Progress.{start, takeRecord}
+use Rattle.ranges.specs.Ranges.{outOfRange}
+use Rattle.tests.specs.Tests.{badKind, cutShort, misplaced, tooMany, badOperand, notAbove, ninthEvent, badEnd}
+use Rattle.tests.specs.FirstHit.{firstHit, refusal}
 use Rattle.reader.specs.declared.Scan.{Scan}
 use Rattle.reader.specs.declared.Scan.the-variants as Scanned
 use Rattle.reader.specs.declared.Reading.the-variants.{Unreadable}

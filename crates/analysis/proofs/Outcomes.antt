@@ -9,7 +9,7 @@ use lib.Dec.{ltb}
 use lib.ListN.{length, drop}
 use borrow.Author.Tests.{ltb-true, ltb-false}
 use Rattle.network.specs.Verdict.{Verdict, pass, inconclusive, refused, verdict}
-use Rattle.records.specs.declared.Refusal.{Refusal}
+use Rattle.tests.specs.declared.Refusal.{Refusal}
 use Rattle.reader.specs.declared.Scan.the-variants as Scanned
 use Rattle.reader.specs.declared.Reading.{Reading}
 use Rattle.reader.specs.declared.Reading.the-variants.{Readable, Unreadable}

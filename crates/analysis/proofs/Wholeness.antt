@@ -9,10 +9,10 @@ use lib.ListN.{length, drop, length-drop}
 use lib.Seq.{drop-drop}
 use borrow.Author.Tests.{eqb-true, ne-eqb}
 use Rattle.records.specs.declared.Record.{Record}
-use Rattle.records.specs.declared.Progress.{Progress}
+use Rattle.progress.specs.declared.Progress.{Progress}
 use Rattle.records.specs.Kinds.{bodyLength, sizeOf, machineKind, endKind, is}
 use Rattle.records.specs.Bytes.{firstRecord}
-use Rattle.records.specs.Progress.{start, takeRecord}
+use Rattle.progress.specs.Progress.{start, takeRecord}
 use Rattle.records.proofs.Sizes.{size-positive}
 use Rattle.records.proofs.Choices.{cond-true, cond-false}
 use Rattle.reader.specs.declared.Scan.the-variants.{Finished}

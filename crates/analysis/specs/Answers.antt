@@ -9,7 +9,7 @@ use Rattle.network.specs.Network.{Network}
 use Rattle.network.specs.Model.{Model, networks}
 use Rattle.network.specs.Lists.{listOf}
 use Rattle.network.specs.Verdict.{Verdict, pass, inconclusive, refused, mostPairs, verdict}
-use Rattle.records.specs.FirstHit.{refusal}
+use Rattle.tests.specs.FirstHit.{refusal}
 use Rattle.reader.specs.declared.Reading.{Reading}
 use Rattle.reader.specs.declared.Reading.the-variants.{Readable, Unreadable}
 use Rattle.reader.specs.Scan.{readingOf}

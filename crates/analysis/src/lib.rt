@@ -10,7 +10,7 @@ ghost use Rattle.network.specs.Loops.{spins};
 ghost use Rattle.network.specs.Lists.{firstOf, listOf};
 ghost use Rattle.network.specs.Verdict.{verdict};
 ghost use Rattle.records.specs.Kinds.{leafKind, is};
-ghost use Rattle.records.specs.FirstHit.{refusal};
+ghost use Rattle.tests.specs.FirstHit.{refusal};
 ghost use Rattle.reader.specs.Scan.{readable, says};
 ghost use Rattle.reader.specs.File.{fileModel};
 ghost use Rattle.lists.specs.Building.{zeros, Gives};
@@ -22,7 +22,7 @@ use lists::PairList;
 use lists::Tally;
 use reader::Reading;
 use records::Record;
-use records::Refusal;
+use tests::Refusal;
 
 // What a pass tells: the bound.
 pub struct Passed {

@@ -7,13 +7,13 @@ use Prim.Native.Nat.{ℕ, zero, suc, _+_, _≤_}
 use native.Mathlib.Omega.{arith}
 use lib.ListN.{length, take, drop, take-append-drop, drop-of-length-le}
 use lib.Seq.{getD-drop}
-use Rattle.records.specs.declared.Progress.{Progress}
+use Rattle.progress.specs.declared.Progress.{Progress}
 use Rattle.records.specs.Kinds.{bodyLength, sizeOf, endKind}
 use Rattle.records.specs.Bytes.{AreBytes, firstRecord, bytesOf}
-use Rattle.records.specs.Progress.{start, takeRecord}
+use Rattle.progress.specs.Progress.{start, takeRecord}
 use Rattle.records.proofs.Bytes.{first-bytes}
-use Rattle.records.proofs.Meeting.{kind-range}
-use Rattle.records.proofs.Passing.{Passed}
+use Rattle.tests.proofs.Meeting.{kind-range}
+use Rattle.tests.proofs.Passing.{Passed}
 use Rattle.reader.specs.declared.Scan.the-variants.{Finished}
 use Rattle.reader.specs.Scan.{scanFrom, scanOf, readable, says}
 use Rattle.reader.specs.File.{recordsFrom, recordsOf}

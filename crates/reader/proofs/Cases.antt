@@ -6,9 +6,9 @@ use Rattle.events.specs.Sets.{has, setOf, count}
 use Rattle.records.specs.Kinds.{bodyLength, sizeOf}
 use Rattle.records.specs.Records.{noTargets}
 use Rattle.records.specs.Bytes.{targetsIn, recordOf, firstRecord}
-use Rattle.records.specs.Progress.{start, usedWith, takeRecord}
-use Rattle.records.specs.Ranges.{wrongTargets}
-use Rattle.records.specs.FirstHit.{firstHit}
+use Rattle.progress.specs.Progress.{start, usedWith, takeRecord}
+use Rattle.ranges.specs.Ranges.{wrongTargets}
+use Rattle.tests.specs.FirstHit.{firstHit}
 use Rattle.reader.specs.Scan.{scanFrom, scanOf, toReading, readingOf, saidOf, says}
 use Rattle.reader.specs.Cases.{example, eight, files, said}
 

@@ -15,14 +15,14 @@ use Rattle.network.specs.Machine.{Step, Machine}
 use Rattle.network.specs.Model.{Node, leafNode, joinNode, hideNode, renameNode, Model, operands, times}
 use Rattle.network.specs.Model.{leafMachines}
 use Rattle.records.specs.declared.Record.{Record}
-use Rattle.records.specs.declared.Progress.{Progress}
+use Rattle.progress.specs.declared.Progress.{Progress}
 use Rattle.records.specs.Kinds.{sizeOf}
 use Rattle.records.specs.Bytes.{AreBytes, bytesOf}
 use Rattle.records.specs.Records.{headerRecord, endRecord}
-use Rattle.records.specs.Progress.{start}
-use Rattle.records.specs.FirstHit.{firstHit}
-use Rattle.records.proofs.MayStand.{header-met, end-met}
-use Rattle.records.proofs.Passes.{met-in}
+use Rattle.progress.specs.Progress.{start}
+use Rattle.tests.specs.FirstHit.{firstHit}
+use Rattle.tests.proofs.MayStand.{header-met, end-met}
+use Rattle.tests.proofs.Passes.{met-in}
 use Rattle.records.proofs.Decodes.{decodes-header, decodes-end}
 use Rattle.reader.specs.declared.Scan.the-variants.{Finished}
 use Rattle.reader.specs.Scan.{scanFrom, scanOf, readable, says}

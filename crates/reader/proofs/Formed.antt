@@ -17,12 +17,12 @@ use Rattle.records.specs.declared.Record.{Record}
 use Rattle.records.specs.Kinds.{sizeOf, stepKind, machineKind, is}
 use Rattle.records.specs.Bytes.{AreBytes}
 use Rattle.records.specs.Records.{headerRecord, endRecord}
-use Rattle.records.specs.Progress.{start}
+use Rattle.progress.specs.Progress.{start}
 use Rattle.events.proofs.Booleans.{yes-true}
-use Rattle.records.proofs.Passing.{passed-out}
-use Rattle.records.proofs.MayStand.{HeaderMet, EndMet}
-use Rattle.records.proofs.Meeting.{header-out, end-out}
-use Rattle.records.proofs.Limits.{Counts}
+use Rattle.tests.proofs.Passing.{passed-out}
+use Rattle.tests.proofs.MayStand.{HeaderMet, EndMet}
+use Rattle.tests.proofs.Meeting.{header-out, end-out}
+use Rattle.tests.proofs.Limits.{Counts}
 use Rattle.reader.specs.Scan.{readable, says}
 use Rattle.reader.specs.File.{labelOf, stepOf, stepsOf, machinesOf, recordsOf, modelOf, fileModel}
 use Rattle.reader.specs.Encoding.{recordsOfMachine, recordOfNode, modelRecords, Encodable}

@@ -11,15 +11,15 @@ use borrow.Author.Tests.{eqb-true}
 use Rattle.network.specs.Machine.{Machine, Step, silent, event}
 use Rattle.network.specs.Model.{Node, leafNode, joinNode, hideNode, renameNode}
 use Rattle.records.specs.declared.Record.{Record}
-use Rattle.records.specs.declared.Progress.{Progress}
+use Rattle.progress.specs.declared.Progress.{Progress}
 use Rattle.records.specs.Kinds.{bodyLength, sizeOf, silentLabel}
 use Rattle.records.specs.Records.{machineRecord, stepRecord, leafRecord, joinRecord, hideRecord}
 use Rattle.records.specs.Records.{renameRecord, endRecord}
-use Rattle.records.specs.Progress.{takeRecord}
-use Rattle.records.proofs.Passing.{passed-out}
-use Rattle.records.proofs.MayStand.{Met, header-met, machine-met, step-met, leaf-met, join-met, hide-met, rename-met}
-use Rattle.records.proofs.MayStand.{end-met}
-use Rattle.records.proofs.Meeting.{met-out}
+use Rattle.progress.specs.Progress.{takeRecord}
+use Rattle.tests.proofs.Passing.{passed-out}
+use Rattle.tests.proofs.MayStand.{Met, header-met, machine-met, step-met, leaf-met, join-met, hide-met, rename-met}
+use Rattle.tests.proofs.MayStand.{end-met}
+use Rattle.tests.proofs.Meeting.{met-out}
 use Rattle.records.proofs.Shapes.{Plain, machine-is, step-is, leaf-is, join-is, hide-is, rename-is, end-is}
 use Rattle.reader.specs.File.{labelOf, stepOf, stepsOf, machinesOf, nodeOf, nodesOf}
 use Rattle.reader.specs.Encoding.{codeOf, recordOfStep, recordsOfMachine, recordOfNode}

@@ -10,14 +10,14 @@ use lib.ListN.{length}
 use Rattle.events.specs.Sets.{room, has, count}
 use Rattle.network.specs.Machine.{Step, Machine, MachineFormed}
 use Rattle.network.specs.Limits.{eventsOf, stepTotal}
-use Rattle.records.specs.declared.Progress.{Progress}
+use Rattle.progress.specs.declared.Progress.{Progress}
 use Rattle.records.specs.Kinds.{sizeOf}
 use Rattle.records.specs.Records.{machineRecord}
-use Rattle.records.specs.Progress.{usedWith, takeRecord}
-use Rattle.records.proofs.Passing.{passed-out}
-use Rattle.records.proofs.MayStand.{machine-met}
-use Rattle.records.proofs.Meeting.{machine-out}
-use Rattle.records.proofs.Passes.{met-in}
+use Rattle.progress.specs.Progress.{usedWith, takeRecord}
+use Rattle.tests.proofs.Passing.{passed-out}
+use Rattle.tests.proofs.MayStand.{machine-met}
+use Rattle.tests.proofs.Meeting.{machine-out}
+use Rattle.tests.proofs.Passes.{met-in}
 use Rattle.reader.specs.Encoding.{recordOfStep, recordsOfMachine, StepsAscend}
 use Rattle.reader.proofs.Passes.{after, after-append, Passes, passes-split, passes-join}
 use Rattle.reader.proofs.StepEvents.{events-count}

@@ -10,13 +10,13 @@ use lib.ListN.{length, length-append}
 use Rattle.events.specs.Sets.{room, has, digit}
 use Rattle.network.specs.Machine.{Machine}
 use Rattle.network.specs.Model.{Node, leafNode, joinNode, hideNode, renameNode, operands, times, ownMachine}
-use Rattle.records.specs.declared.Progress.{Progress}
+use Rattle.progress.specs.declared.Progress.{Progress}
 use Rattle.records.specs.Kinds.{sizeOf}
 use Rattle.records.specs.Records.{joinRecord, hideRecord, renameRecord}
-use Rattle.records.specs.Progress.{with, usedWith, takeRecord}
-use Rattle.records.specs.FirstHit.{firstHit}
-use Rattle.records.proofs.Passing.{passed-out}
-use Rattle.records.proofs.Meeting.{join-out, hide-out, rename-out}
+use Rattle.progress.specs.Progress.{with, usedWith, takeRecord}
+use Rattle.tests.specs.FirstHit.{firstHit}
+use Rattle.tests.proofs.Passing.{passed-out}
+use Rattle.tests.proofs.Meeting.{join-out, hide-out, rename-out}
 use Rattle.reader.specs.Encoding.{recordOfNode}
 use Rattle.reader.proofs.Passes.{after}
 use Rattle.reader.proofs.Ranges.{add-count, add-other}

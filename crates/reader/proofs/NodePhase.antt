@@ -7,13 +7,13 @@ use Prim.Native.Nat.{ℕ, zero, suc, _+_, _≤_, _<_}
 use native.Mathlib.Omega.{arith}
 use lib.ListN.{length, getD}
 use Rattle.network.specs.Model.{Node, leafNode, joinNode, hideNode, renameNode, NodeFormed}
-use Rattle.records.specs.declared.Progress.{Progress}
+use Rattle.progress.specs.declared.Progress.{Progress}
 use Rattle.records.specs.Kinds.{sizeOf}
 use Rattle.records.specs.Records.{leafRecord, joinRecord, hideRecord, renameRecord}
-use Rattle.records.specs.Progress.{takeRecord}
-use Rattle.records.specs.FirstHit.{firstHit}
-use Rattle.records.proofs.Passing.{passed-out}
-use Rattle.records.proofs.Meeting.{leaf-out, join-out, hide-out, rename-out}
+use Rattle.progress.specs.Progress.{takeRecord}
+use Rattle.tests.specs.FirstHit.{firstHit}
+use Rattle.tests.proofs.Passing.{passed-out}
+use Rattle.tests.proofs.Meeting.{leaf-out, join-out, hide-out, rename-out}
 use Rattle.records.proofs.Shapes.{Plain}
 use Rattle.reader.specs.Encoding.{recordOfNode, TargetsFilled}
 use Rattle.reader.proofs.Passes.{Passes}

@@ -13,13 +13,13 @@ use Rattle.events.specs.Sets.{room, has, digit}
 use Rattle.network.specs.Machine.{Machine}
 use Rattle.network.specs.Model.{Node, leafNode, joinNode, hideNode, renameNode, NodeFormed, operands, times}
 use Rattle.network.specs.Model.{ownMachine}
-use Rattle.records.specs.declared.Progress.{Progress}
+use Rattle.progress.specs.declared.Progress.{Progress}
 use Rattle.records.specs.Kinds.{sizeOf}
 use Rattle.records.specs.Records.{leafRecord, joinRecord, hideRecord, renameRecord}
-use Rattle.records.specs.Progress.{takeRecord}
-use Rattle.records.specs.FirstHit.{firstHit}
-use Rattle.records.proofs.MayStand.{NodeMay, leaf-met, join-met, hide-met, rename-met}
-use Rattle.records.proofs.Passes.{met-in}
+use Rattle.progress.specs.Progress.{takeRecord}
+use Rattle.tests.specs.FirstHit.{firstHit}
+use Rattle.tests.proofs.MayStand.{NodeMay, leaf-met, join-met, hide-met, rename-met}
+use Rattle.tests.proofs.Passes.{met-in}
 use Rattle.reader.specs.Encoding.{recordOfNode}
 use Rattle.reader.proofs.Passes.{Passes}
 use Rattle.reader.proofs.Ranges.{set-in, targets-in}

@@ -7,15 +7,15 @@ use Prim.Native.Nat.{ℕ, _+_, _≤_}
 use native.Mathlib.Omega.{arith}
 use lib.ListN.{length, length-append}
 use Rattle.records.specs.declared.Record.{Record}
-use Rattle.records.specs.declared.Progress.{Progress}
+use Rattle.progress.specs.declared.Progress.{Progress}
 use Rattle.records.specs.Kinds.{sizeOf}
 use Rattle.records.specs.Bytes.{AreBytes, bytesOf}
 use Rattle.records.specs.Records.{headerRecord, endRecord}
-use Rattle.records.specs.Progress.{start, takeRecord}
-use Rattle.records.proofs.Passing.{passed-out}
-use Rattle.records.proofs.MayStand.{Met, HeaderMet, header-met, machine-met, step-met, leaf-met, join-met, hide-met}
-use Rattle.records.proofs.MayStand.{rename-met, end-met}
-use Rattle.records.proofs.Meeting.{met-out}
+use Rattle.progress.specs.Progress.{start, takeRecord}
+use Rattle.tests.proofs.Passing.{passed-out}
+use Rattle.tests.proofs.MayStand.{Met, HeaderMet, header-met, machine-met, step-met, leaf-met, join-met, hide-met}
+use Rattle.tests.proofs.MayStand.{rename-met, end-met}
+use Rattle.tests.proofs.Meeting.{met-out}
 use Rattle.records.proofs.Shapes.{header-is}
 use Rattle.reader.specs.Scan.{scanOf, readable, says}
 use Rattle.reader.specs.File.{recordsFrom, recordsOf, machinesOf, nodesOf, eventCount, modelOf}

@@ -4,12 +4,12 @@ use mathlib.Core.Path.{_≡_, refl}
 use mathlib.Core.List.{List, [], _∷_, _++_}
 use native.Mathlib.Omega.{arith}
 use Rattle.records.specs.declared.Record.{Record}
-use Rattle.records.specs.declared.Progress.{Progress}
+use Rattle.progress.specs.declared.Progress.{Progress}
 use Rattle.records.specs.Kinds.{sizeOf}
-use Rattle.records.specs.Progress.{start, takeRecord}
-use Rattle.records.specs.FirstHit.{firstHit}
-use Rattle.records.proofs.Passing.{passed-out}
-use Rattle.records.proofs.Limits.{Counts, counts-keep}
+use Rattle.progress.specs.Progress.{start, takeRecord}
+use Rattle.tests.specs.FirstHit.{firstHit}
+use Rattle.tests.proofs.Passing.{passed-out}
+use Rattle.tests.proofs.Limits.{Counts, counts-keep}
 use Rattle.reader.proofs.Records.{Runs}
 
 -- what is read once the records are taken

@@ -9,10 +9,10 @@ use native.Mathlib.Omega.{arith}
 use lib.Dec.{eqb}
 use lib.ListN.{length, length-drop}
 use Rattle.records.specs.declared.Record.{Record}
-use Rattle.records.specs.declared.Progress.{Progress}
+use Rattle.progress.specs.declared.Progress.{Progress}
 use Rattle.records.specs.Kinds.{bodyLength, sizeOf}
 use Rattle.records.specs.Bytes.{AreBytes, firstRecord}
-use Rattle.records.specs.Progress.{takeRecord}
+use Rattle.progress.specs.Progress.{takeRecord}
 use Rattle.records.proofs.Shapes.{Plain, first-plain}
 use Rattle.reader.specs.declared.Scan.the-variants.{Finished}
 use Rattle.reader.specs.Scan.{scanFrom}

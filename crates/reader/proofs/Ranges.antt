@@ -16,8 +16,8 @@ use Rattle.events.proofs.Operations.{full-in}
 use Rattle.events.proofs.Tests.{included-iff}
 use Rattle.events.proofs.Booleans.{yes-true}
 use Rattle.network.specs.Network.{TargetsBelow}
-use Rattle.records.specs.Progress.{with}
-use Rattle.records.specs.Ranges.{wrongSet, wrongTarget, wrongTargets}
+use Rattle.progress.specs.Progress.{with}
+use Rattle.ranges.specs.Ranges.{wrongSet, wrongTarget, wrongTargets}
 use Rattle.records.proofs.Choices.{or-none, and-none, true-yes, or-false}
 use Rattle.reader.specs.Encoding.{TargetsFilled}
 use Rattle.reader.proofs.StepEvents.{with-has}

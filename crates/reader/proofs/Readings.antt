@@ -8,8 +8,8 @@ use native.Mathlib.Omega.{arith}
 use lib.Dec.{ltb}
 use lib.ListN.{length}
 use borrow.Author.Tests.{lt-ltb, le-ltb, ltb-false}
-use Rattle.records.specs.declared.Progress.{Progress}
-use Rattle.records.specs.FirstHit.{refusal}
+use Rattle.progress.specs.declared.Progress.{Progress}
+use Rattle.tests.specs.FirstHit.{refusal}
 use Rattle.reader.specs.declared.Scan.{Scan}
 use Rattle.reader.specs.declared.Scan.the-variants.{Stopped, Finished, Refused}
 use Rattle.reader.specs.declared.Reading.the-variants.{Unreadable}

@@ -10,14 +10,14 @@ use lib.Dec.{ltb, eqb}
 use lib.ListN.{length, length-drop}
 use borrow.Author.Tests.{ltb-false, eqb-true, eq-eqb, ne-eqb, le-ltb, not-false}
 use Rattle.records.specs.declared.Record.{Record}
-use Rattle.records.specs.declared.Progress.{Progress}
+use Rattle.progress.specs.declared.Progress.{Progress}
 use Rattle.records.specs.Kinds.{bodyLength, sizeOf, endKind}
 use Rattle.records.specs.Bytes.{firstRecord}
-use Rattle.records.specs.Progress.{takeRecord}
-use Rattle.records.specs.Tests.{badEnd, unusedNode}
-use Rattle.records.specs.FirstHit.{firstHit}
+use Rattle.progress.specs.Progress.{takeRecord}
+use Rattle.tests.specs.Tests.{badEnd, unusedNode}
+use Rattle.tests.specs.FirstHit.{firstHit}
 use Rattle.records.proofs.Choices.{or-none3, and-none}
-use Rattle.records.proofs.Passing.{Passed, pass-with}
+use Rattle.tests.proofs.Passing.{Passed, pass-with}
 use Rattle.reader.specs.declared.Scan.the-variants.{Finished}
 use Rattle.reader.specs.Scan.{scanFrom}
 use Rattle.reader.specs.File.{recordsFrom}

@@ -9,14 +9,14 @@ use lib.ListN.{length, take, drop, length-drop}
 use lib.Seq.{drop-drop, take-all}
 use borrow.Author.Tests.{ltb-false}
 use Rattle.records.specs.declared.Record.{Record}
-use Rattle.records.specs.declared.Progress.{Progress}
+use Rattle.progress.specs.declared.Progress.{Progress}
 use Rattle.records.specs.Kinds.{endKind, sizeOf}
 use Rattle.records.specs.Bytes.{firstRecord}
-use Rattle.records.specs.Progress.{start, takeRecord, Within}
-use Rattle.records.specs.FirstHit.{firstHit, refusal}
+use Rattle.progress.specs.Progress.{start, takeRecord, Within}
+use Rattle.tests.specs.FirstHit.{firstHit, refusal}
 use Rattle.records.proofs.Sizes.{size-positive}
-use Rattle.records.proofs.Passing.{passed-out}
-use Rattle.records.proofs.Limits.{within-keeps}
+use Rattle.tests.proofs.Passing.{passed-out}
+use Rattle.tests.proofs.Limits.{within-keeps}
 use Rattle.reader.specs.declared.Scan.the-variants.{Stopped, Finished, Refused}
 use Rattle.reader.specs.Scan.{scanFrom, scanOf}
 use Rattle.reader.proofs.Turns.{scan-stopped, scan-refused, scan-finished, scan-next}

@@ -5,9 +5,9 @@ use mathlib.Core.List.{map, flatMap}
 use native.Mathlib.Omega.{arith}
 use lib.ListN.{length}
 use Rattle.network.specs.Model.{Model}
-use Rattle.records.specs.declared.Progress.{Progress}
+use Rattle.progress.specs.declared.Progress.{Progress}
 use Rattle.records.specs.Records.{headerRecord}
-use Rattle.records.specs.Progress.{start, usedWith, takeRecord}
+use Rattle.progress.specs.Progress.{start, usedWith, takeRecord}
 use Rattle.reader.specs.Encoding.{recordsOfMachine, recordOfNode, modelRecords}
 use Rattle.reader.proofs.Passes.{after, after-append}
 use Rattle.reader.proofs.MachinePhase.{AfterMachines, after-machines}

@@ -17,7 +17,7 @@ use Rattle.events.proofs.Widths.{count-widen}
 use Rattle.network.specs.Machine.{Label, silent, event, Step, step, Machine, LabelBelow, StepFormed}
 use Rattle.network.specs.Machine.{isLabel}
 use Rattle.network.specs.Limits.{labels, eventsOf}
-use Rattle.records.specs.Progress.{with}
+use Rattle.progress.specs.Progress.{with}
 use Rattle.records.proofs.Choices.{or-assoc, or-false}
 use Rattle.reader.specs.Encoding.{codeOf}
 

@@ -6,7 +6,7 @@ use Prim.Native.Nat.{ℕ, _+_, _*_, _≤_, _<_}
 use native.Mathlib.Omega.{arith}
 use native.Mathlib.Decide.{decLt}
 use Rattle.network.specs.Machine.{Label, silent, event, Step, step, LabelBelow, StepFormed}
-use Rattle.records.specs.Progress.{keyOf}
+use Rattle.records.specs.Records.{keyOf}
 use Rattle.reader.specs.Encoding.{codeOf, recordOfStep, StepBelow}
 
 -- a step as one number

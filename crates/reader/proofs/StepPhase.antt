@@ -9,14 +9,14 @@ use native.Mathlib.Omega.{arith}
 use lib.ListN.{length}
 use Rattle.events.specs.Sets.{room, count}
 use Rattle.network.specs.Machine.{Label, silent, event, Step, step, LabelBelow, StepFormed}
-use Rattle.records.specs.declared.Progress.{Progress}
+use Rattle.progress.specs.declared.Progress.{Progress}
 use Rattle.records.specs.Kinds.{sizeOf, silentLabel}
 use Rattle.records.specs.Records.{stepRecord}
-use Rattle.records.specs.Progress.{with, usedWith, takeRecord}
-use Rattle.records.proofs.Passing.{passed-out}
-use Rattle.records.proofs.MayStand.{StepMet, step-met}
-use Rattle.records.proofs.Meeting.{step-out}
-use Rattle.records.proofs.Passes.{met-in}
+use Rattle.progress.specs.Progress.{with, usedWith, takeRecord}
+use Rattle.tests.proofs.Passing.{passed-out}
+use Rattle.tests.proofs.MayStand.{StepMet, step-met}
+use Rattle.tests.proofs.Meeting.{step-out}
+use Rattle.tests.proofs.Passes.{met-in}
 use Rattle.reader.specs.File.{labelOf}
 use Rattle.reader.specs.Encoding.{codeOf, recordOfStep, StepsAscend}
 use Rattle.reader.proofs.Passes.{after, Passes}

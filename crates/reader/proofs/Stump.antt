@@ -8,10 +8,10 @@ use Prim.Native.Nat.{ℕ, zero, suc, _+_, _-_, _≤_, _<_}
 use native.Mathlib.Omega.{arith}
 use lib.ListN.{length, drop, length-drop, length-append}
 use lib.Seq.{getD-append-add, getD-drop}
-use Rattle.records.specs.declared.Progress.{Progress}
+use Rattle.progress.specs.declared.Progress.{Progress}
 use Rattle.records.specs.Kinds.{bodyLength, sizeOf, endKind}
 use Rattle.records.specs.Bytes.{byte, two, recordOf, firstRecord}
-use Rattle.records.specs.Progress.{start, takeRecord}
+use Rattle.progress.specs.Progress.{start, takeRecord}
 use Rattle.records.proofs.Bytes.{first-kind}
 use Rattle.reader.specs.declared.Scan.the-variants.{Finished}
 use Rattle.reader.specs.Scan.{scanFrom, scanOf, readable, refused, says}

@@ -9,13 +9,13 @@ use native.Mathlib.Omega.{arith}
 use lib.Dec.{eqb}
 use lib.ListN.{length, drop}
 use borrow.Author.Tests.{eqb-true, eqb-false, eq-eqb, ne-eqb, ltb-false}
-use Rattle.records.specs.declared.Progress.{Progress}
-use Rattle.records.specs.declared.Refusal.{Refusal}
+use Rattle.progress.specs.declared.Progress.{Progress}
+use Rattle.tests.specs.declared.Refusal.{Refusal}
 use Rattle.records.specs.Kinds.{endKind, sizeOf, is}
 use Rattle.records.specs.Bytes.{firstRecord}
-use Rattle.records.specs.Progress.{takeRecord}
-use Rattle.records.specs.FirstHit.{firstHit, refusal}
-use Rattle.records.proofs.Passing.{Passed, passed-out}
+use Rattle.progress.specs.Progress.{takeRecord}
+use Rattle.tests.specs.FirstHit.{firstHit, refusal}
+use Rattle.tests.proofs.Passing.{Passed, passed-out}
 use Rattle.reader.specs.declared.Scan.{Scan}
 use Rattle.reader.specs.declared.Scan.the-variants.{Stopped, Finished, Refused}
 use Rattle.reader.specs.Scan.{scanFrom}

@@ -5,11 +5,11 @@ use mathlib.Core.List.{List}
 use Prim.Native.Nat.{ℕ, zero, suc}
 use lib.Dec.{ltb, eqb}
 use lib.ListN.{length, drop}
-use Rattle.records.specs.declared.Progress.{Progress}
+use Rattle.progress.specs.declared.Progress.{Progress}
 use Rattle.records.specs.Kinds.{endKind, sizeOf, is}
 use Rattle.records.specs.Bytes.{firstRecord}
-use Rattle.records.specs.Progress.{start, takeRecord}
-use Rattle.records.specs.FirstHit.{firstHit, refusal}
+use Rattle.progress.specs.Progress.{start, takeRecord}
+use Rattle.tests.specs.FirstHit.{firstHit, refusal}
 use Rattle.reader.specs.declared.Scan.{Scan}
 use Rattle.reader.specs.declared.Scan.the-variants.{Stopped, Finished, Refused}
 use Rattle.reader.specs.declared.Reading.{Reading}

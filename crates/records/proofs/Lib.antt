@@ -1,14 +1,7 @@
 pub mod Choices
 pub mod Sizes
 pub mod Decoding
-pub mod Ranges
-pub mod Taking
-pub mod Passing
-pub mod MayStand
-pub mod Meeting
-pub mod Passes
 pub mod Bytes
 pub mod Decodes
-pub mod Limits
 pub mod Shapes
 pub mod Unique

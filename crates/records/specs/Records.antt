@@ -1,7 +1,7 @@
 -- A record of each kind: its kind and its numbers. Document 01, "The model file".
 -- A number that the kind doesn't use is 0. Assumes nothing.
 use mathlib.Core.List.{List, [], _∷_}
-use Prim.Native.Nat.{ℕ}
+use Prim.Native.Nat.{ℕ, _+_, _*_}
 use Rattle.records.specs.declared.Record.{Record}
 use Rattle.records.specs.Kinds.{headerKind, machineKind, stepKind, leafKind, joinKind, hideKind, renameKind}
 use Rattle.records.specs.Kinds.{endKind}
@@ -61,3 +61,7 @@ endRecord x = recordWith endKind x 0 0 0 0 0 0 noTargets
 -- a record whose kind k is none of these
 abbrev pub otherRecord : ℕ → Record
 otherRecord k = recordWith k 0 0 0 0 0 0 0 noTargets
+
+-- a step as one number, so that steps ascend by from, then label, then to
+abbrev pub keyOf : Record → ℕ
+keyOf r = r .from * 65536 + r .label * 256 + r .to

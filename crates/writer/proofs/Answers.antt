@@ -9,11 +9,11 @@ use lib.Dec.{ltb, eqb}
 use lib.ListN.{length, take, drop}
 use borrow.Author.Tests.{eqb-true, ltb-false, ne-eqb, lt-ltb, le-ltb}
 use Rattle.records.specs.declared.Record.{Record}
-use Rattle.records.specs.declared.Progress.{Progress}
-use Rattle.records.specs.declared.Refusal.{Refusal}
+use Rattle.progress.specs.declared.Progress.{Progress}
+use Rattle.tests.specs.declared.Refusal.{Refusal}
 use Rattle.records.specs.Kinds.{sizeOf}
 use Rattle.records.specs.Bytes.{bytesOf}
-use Rattle.records.specs.FirstHit.{firstHit, refusal}
+use Rattle.tests.specs.FirstHit.{firstHit, refusal}
 use Rattle.reader.specs.declared.Scan.{Scan}
 use Rattle.reader.specs.declared.Scan.the-variants.{Stopped, Finished, Refused}
 use Rattle.reader.specs.Scan.{scanOf}

@@ -8,11 +8,11 @@ use native.Mathlib.Omega.{arith}
 use lib.ListN.{length, drop, length-append, length-drop}
 use lib.Seq.{take-at, drop-append-add}
 use Rattle.records.specs.declared.Record.{Record}
-use Rattle.records.specs.declared.Progress.{Progress}
+use Rattle.progress.specs.declared.Progress.{Progress}
 use Rattle.records.specs.Kinds.{endKind, sizeOf, bodyLength}
 use Rattle.records.specs.Bytes.{firstRecord, bytesOf}
-use Rattle.records.specs.Progress.{start, takeRecord}
-use Rattle.records.specs.FirstHit.{firstHit}
+use Rattle.progress.specs.Progress.{start, takeRecord}
+use Rattle.tests.specs.FirstHit.{firstHit}
 use Rattle.records.proofs.Decodes.{Decodes}
 use Rattle.records.proofs.Sizes.{size-positive}
 use Rattle.reader.specs.declared.Scan.the-variants.{Stopped, Finished}

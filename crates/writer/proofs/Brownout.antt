@@ -11,11 +11,11 @@ use lib.ListN.{length, take, length-take}
 use lib.Seq.{length-take-le, take-take}
 use borrow.Author.Tests.{ltb-true, ltb-false}
 use Rattle.records.specs.declared.Record.{Record}
-use Rattle.records.specs.declared.Progress.{Progress}
+use Rattle.progress.specs.declared.Progress.{Progress}
 use Rattle.records.specs.Kinds.{endKind, sizeOf}
 use Rattle.records.specs.Bytes.{firstRecord}
-use Rattle.records.specs.Progress.{start, takeRecord}
-use Rattle.records.specs.FirstHit.{refusal}
+use Rattle.progress.specs.Progress.{start, takeRecord}
+use Rattle.tests.specs.FirstHit.{refusal}
 use Rattle.records.proofs.Sizes.{size-positive}
 use Rattle.reader.specs.declared.Scan.the-variants.{Stopped, Finished}
 use Rattle.reader.specs.Scan.{scanFrom, scanOf, refused, says}

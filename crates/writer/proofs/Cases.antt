@@ -7,9 +7,9 @@ use Rattle.events.specs.Sets.{has, setOf, count}
 use Rattle.records.specs.Kinds.{sizeOf, bodyLength}
 use Rattle.records.specs.Records.{noTargets, machineRecord}
 use Rattle.records.specs.Bytes.{recordOf, firstRecord, bytesOf, targetsIn}
-use Rattle.records.specs.Progress.{start, usedWith, takeRecord}
-use Rattle.records.specs.Ranges.{wrongTargets}
-use Rattle.records.specs.FirstHit.{firstHit}
+use Rattle.progress.specs.Progress.{start, usedWith, takeRecord}
+use Rattle.ranges.specs.Ranges.{wrongTargets}
+use Rattle.tests.specs.FirstHit.{firstHit}
 use Rattle.reader.specs.Scan.{scanFrom, scanOf}
 use Rattle.writer.specs.declared.Written.the-variants.{Appended}
 use Rattle.writer.specs.Append.{tested, afterScan, answerOf, bufferAfter, bufferOf}

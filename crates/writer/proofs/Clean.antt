@@ -11,14 +11,14 @@ use lib.ListN.{length, length-drop, length-append}
 use lib.Seq.{drop-append-le}
 use borrow.Author.Tests.{eqb-true, eqb-false, ne-eqb, le-ltb, ltb-false}
 use Rattle.records.specs.declared.Record.{Record}
-use Rattle.records.specs.declared.Progress.{Progress}
+use Rattle.progress.specs.declared.Progress.{Progress}
 use Rattle.records.specs.Kinds.{endKind, sizeOf, is}
 use Rattle.records.specs.Bytes.{firstRecord}
-use Rattle.records.specs.Progress.{takeRecord}
-use Rattle.records.specs.FirstHit.{firstHit, refusal}
+use Rattle.progress.specs.Progress.{takeRecord}
+use Rattle.tests.specs.FirstHit.{firstHit, refusal}
 use Rattle.records.proofs.Sizes.{size-positive}
 use Rattle.records.proofs.Bytes.{same-first}
-use Rattle.records.proofs.Passing.{Passed, passed-out, pass-with}
+use Rattle.tests.proofs.Passing.{Passed, passed-out, pass-with}
 use Rattle.reader.specs.declared.Scan.{Scan}
 use Rattle.reader.specs.declared.Scan.the-variants.{Stopped, Finished, Refused}
 use Rattle.reader.specs.Scan.{scanFrom}

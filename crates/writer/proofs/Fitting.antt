@@ -14,17 +14,17 @@ use Rattle.events.specs.Sets.{room, full, included}
 use Rattle.events.proofs.Members.{member-below, below-of-members, setOf-below}
 use Rattle.events.proofs.Tests.{included-iff}
 use Rattle.records.specs.declared.Record.{Record}
-use Rattle.records.specs.declared.Progress.{Progress}
+use Rattle.progress.specs.declared.Progress.{Progress}
 use Rattle.records.specs.Kinds.{headerKind, machineKind, stepKind, endKind, sizeOf, bodyLength, is, isNode}
 use Rattle.records.specs.Bytes.{bytesOf}
-use Rattle.records.specs.Progress.{start, takeRecord}
-use Rattle.records.specs.Ranges.{wrongSet, wrongTarget, wrongTargets}
+use Rattle.progress.specs.Progress.{start, takeRecord}
+use Rattle.ranges.specs.Ranges.{wrongSet, wrongTarget, wrongTargets}
 use Rattle.records.proofs.Choices.{or-none}
-use Rattle.records.proofs.Passing.{Passed}
+use Rattle.tests.proofs.Passing.{Passed}
 use Rattle.records.proofs.Sizes.{size-most}
-use Rattle.records.proofs.MayStand.{NodeMay, Met, header-met, machine-met, step-met, leaf-met, join-met, hide-met}
-use Rattle.records.proofs.MayStand.{rename-met, end-met}
-use Rattle.records.proofs.Meeting.{met-out}
+use Rattle.tests.proofs.MayStand.{NodeMay, Met, header-met, machine-met, step-met, leaf-met, join-met, hide-met}
+use Rattle.tests.proofs.MayStand.{rename-met, end-met}
+use Rattle.tests.proofs.Meeting.{met-out}
 use Rattle.writer.specs.Append.{lowByte}
 
 -- what every scan keeps to before an end, of the numbers that the tests compare with, and of the place

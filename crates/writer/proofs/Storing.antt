@@ -9,8 +9,8 @@ use lib.Seq.{paste, length-take-le}
 use Rattle.records.specs.declared.Record.{Record}
 use Rattle.records.specs.Kinds.{sizeOf}
 use Rattle.records.specs.Bytes.{bytesOf}
-use Rattle.records.specs.Progress.{start}
-use Rattle.records.proofs.Passing.{passed-out}
+use Rattle.progress.specs.Progress.{start}
+use Rattle.tests.proofs.Passing.{passed-out}
 use Rattle.records.proofs.Sizes.{size-most}
 use Rattle.reader.specs.Scan.{scanOf}
 use Rattle.writer.specs.Append.{lowByte}

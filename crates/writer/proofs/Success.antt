@@ -12,18 +12,18 @@ use lib.ListN.{length, take, drop, length-append, length-take, length-drop}
 use lib.Seq.{take-at, length-take-le}
 use borrow.Author.Tests.{ltb-false}
 use Rattle.records.specs.declared.Record.{Record}
-use Rattle.records.specs.declared.Progress.{Progress}
+use Rattle.progress.specs.declared.Progress.{Progress}
 use Rattle.records.specs.Kinds.{endKind, sizeOf}
 use Rattle.records.specs.Records.{noTargets, otherRecord}
 use Rattle.records.specs.Bytes.{bytesOf}
-use Rattle.records.specs.Progress.{start, takeRecord}
-use Rattle.records.specs.Tests.{badKind}
-use Rattle.records.specs.FirstHit.{refusal}
+use Rattle.progress.specs.Progress.{start, takeRecord}
+use Rattle.tests.specs.Tests.{badKind}
+use Rattle.tests.specs.FirstHit.{refusal}
 use Rattle.records.proofs.Decodes.{Decodes, decodes-header, decodes-machine, decodes-step, decodes-leaf}
 use Rattle.records.proofs.Decodes.{decodes-join, decodes-hide, decodes-rename, decodes-end}
-use Rattle.records.proofs.Passing.{passed-out}
+use Rattle.tests.proofs.Passing.{passed-out}
 use Rattle.records.proofs.Sizes.{each-kind, size-most}
-use Rattle.records.proofs.Meeting.{kind-range}
+use Rattle.tests.proofs.Meeting.{kind-range}
 use Rattle.reader.specs.declared.Scan.the-variants.{Stopped, Finished}
 use Rattle.reader.specs.Scan.{scanOf, readable, refused, says}
 use Rattle.reader.proofs.Readings.{readable-in, stopped-says}

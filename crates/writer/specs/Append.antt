@@ -6,13 +6,13 @@ use Prim.Native.Nat.{ℕ, _+_, _-_, _%_}
 use lib.Dec.{ltb, eqb}
 use lib.ListN.{length, take, drop, getD}
 use Rattle.records.specs.declared.Record.{Record}
-use Rattle.records.specs.declared.Progress.{Progress}
+use Rattle.progress.specs.declared.Progress.{Progress}
 use Rattle.records.specs.Kinds.{headerKind, machineKind, stepKind, leafKind, joinKind, hideKind, renameKind, endKind}
 use Rattle.records.specs.Kinds.{sizeOf}
 use Rattle.records.specs.Records.{headerRecord, machineRecord, stepRecord, leafRecord, joinRecord, hideRecord}
 use Rattle.records.specs.Records.{renameRecord, endRecord, otherRecord}
 use Rattle.records.specs.Bytes.{bytesOf}
-use Rattle.records.specs.FirstHit.{firstHit, refusal}
+use Rattle.tests.specs.FirstHit.{firstHit, refusal}
 use Rattle.reader.specs.declared.Scan.{Scan}
 use Rattle.reader.specs.declared.Scan.the-variants.{Stopped, Finished, Refused}
 use Rattle.reader.specs.Scan.{scanOf}

@@ -10,7 +10,7 @@ use Rattle.records.specs.declared.Record.{Record}
 use Rattle.records.specs.Kinds.{endKind}
 use Rattle.records.specs.Records.{endRecord}
 use Rattle.records.specs.Bytes.{AreBytes, bytesOf}
-use Rattle.records.specs.FirstHit.{refusal}
+use Rattle.tests.specs.FirstHit.{refusal}
 use Rattle.reader.specs.Scan.{readable, refused, says}
 use Rattle.reader.specs.File.{recordsOf, fileModel}
 use Rattle.reader.specs.Encoding.{modelRecords, encode, Encodable}

@@ -9,10 +9,10 @@ ghost use Rattle.records.specs.Bytes.{bytesOf};
 ghost use Rattle.reader.specs.Scan.{scanOf};
 ghost use Rattle.writer.specs.Writing.{numbersOf};
 ghost use Rattle.writer.specs.Append.{lowByte, handedIn, tested, afterScan, answerOf, bufferOf};
+use progress::Progress;
 use reader::Scan;
-use records::Progress;
 use records::Record;
-use records::Refusal;
+use tests::Refusal;
 
 pub enum Written {
     Appended(usize),
@@ -187,7 +187,7 @@ fn tested_record(len: usize, used: usize, r: Record, g: Progress) -> Written
     ensures { λ x. ⌜ x ≡ tested len used r g ⌝ }
 {
     let size = records::size_of(r.kind);
-    let hit = records::first_hit(g, r, size);
+    let hit = tests::first_hit(g, r, size);
     if hit != 0 {
         return Written::Rejected(Refusal {
             number: hit,
