@@ -6,7 +6,7 @@ use native.Mathlib.Numerals.{add-one}
 use native.Mathlib.Omega.{arith}
 use lib.ListN.{length, take, set, replicate-append-replicate}
 use lib.Seq.{take-suc-set, take-all}
-use Rattle.lists.specs.Building.{zeros}
+use Rattle.filling.specs.Building.{zeros}
 
 zeros-more : (i : ℕ) → zeros i ++ (0 ∷ []) ≡ zeros (i + 1)
 unfolding zeros

@@ -16,7 +16,7 @@ use Rattle.reader.specs.declared.Reading.{Reading}
 use Rattle.reader.specs.declared.Reading.the-variants.{Readable, Unreadable}
 use Rattle.reader.specs.Scan.{readingOf}
 use Rattle.reader.specs.File.{fileModel}
-use Rattle.lists.specs.Building.{zeros}
+use Rattle.filling.specs.Building.{zeros}
 use Rattle.analysis.specs.declared.Answer.{Answer}
 use Rattle.analysis.specs.declared.Answer.the-variants.{Pass, Inconclusive, Refused}
 use Rattle.analysis.specs.declared.Passed.{Passed}

@@ -27,10 +27,10 @@ use Rattle.reader.specs.File.{fileModel}
 use Rattle.reader.specs.Finding.{machinePlace, statesOf, stepsAt}
 use Rattle.reader.proofs.Formed.{model-formed}
 use Rattle.reader.proofs.Found.{machine-found}
-use Rattle.lists.specs.Entries.{width}
-use Rattle.lists.specs.Building.{filled, padded, Made, Gives, stored}
+use Rattle.entries.specs.Entries.{width}
+use Rattle.filling.specs.Building.{filled, padded, Made, Gives, stored}
 use Rattle.lists.specs.Promise.{JoinGivesRule, HideGivesRule, RenameGivesRule}
-use Rattle.lists.proofs.Fillings.{padded-length}
+use Rattle.filling.proofs.Fillings.{padded-length}
 use Rattle.lists.proofs.Promise.{join-gives-rule, hide-gives-rule, rename-gives-rule}
 use Rattle.leaf.specs.Steps.{stepsIn, machineOf, AllEndBelow}
 use Rattle.leaf.specs.Table.{mostStates}

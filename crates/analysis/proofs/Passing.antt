@@ -20,7 +20,7 @@ use Rattle.network.specs.Lists.{listOf, flagOf}
 use Rattle.network.specs.Verdict.{pass, inconclusive, refused, mostPairs, operandEmpty, isOver, verdictFrom}
 use Rattle.network.specs.Verdict.{verdict}
 use Rattle.tests.specs.FirstHit.{refusal}
-use Rattle.lists.specs.Building.{padded}
+use Rattle.filling.specs.Building.{padded}
 use Rattle.analysis.specs.declared.Answer.the-variants.{Pass, Inconclusive, Refused}
 use Rattle.analysis.specs.Answers.{answerFor, needed, sectionsOf}
 use Rattle.analysis.specs.Sweeping.{Built, Swept}

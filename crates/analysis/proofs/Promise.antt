@@ -24,8 +24,8 @@ use Rattle.records.specs.Bytes.{AreBytes}
 use Rattle.reader.specs.Scan.{readable, says}
 use Rattle.reader.specs.File.{fileModel}
 use Rattle.reader.proofs.Formed.{model-formed}
-use Rattle.lists.specs.Building.{zeros, padded}
-use Rattle.lists.proofs.Fillings.{padded-take}
+use Rattle.filling.specs.Building.{zeros, padded}
+use Rattle.filling.proofs.Fillings.{padded-take}
 use Rattle.analysis.specs.Answers.{needed, sectionsFor, areaAfter}
 use Rattle.analysis.specs.Promise.{verdictOn, section, PassExactly, SectionsAreLists, PassBoundsSilence}
 use Rattle.analysis.specs.Promise.{InconclusiveIsFirst, ElevenIsFirst, TwelveNever}

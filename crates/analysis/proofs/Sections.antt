@@ -11,8 +11,8 @@ use Rattle.network.specs.Network.{Network}
 use Rattle.network.specs.Model.{nowhere}
 use Rattle.network.specs.Lists.{listOf}
 use Rattle.network.specs.Verdict.{mostPairs}
-use Rattle.lists.specs.Building.{zeros, padded}
-use Rattle.lists.proofs.Fillings.{padded-length}
+use Rattle.filling.specs.Building.{zeros, padded}
+use Rattle.filling.proofs.Fillings.{padded-length}
 use Rattle.analysis.specs.Answers.{sectionsOf}
 
 -- no list of the networks has more than 256 pairs

@@ -28,8 +28,8 @@ use Rattle.reader.specs.Encoding.{TargetsFilled}
 use Rattle.reader.specs.Finding.{nodePlace, recordAt}
 use Rattle.reader.proofs.Found.{node-found}
 use Rattle.reader.proofs.Formed.{model-formed}
-use Rattle.lists.specs.Entries.{AllInside, KeepsOthers}
-use Rattle.lists.proofs.Inside.{list-inside}
+use Rattle.entries.specs.Entries.{AllInside, KeepsOthers}
+use Rattle.entries.proofs.Inside.{list-inside}
 use Rattle.analysis.specs.Sweeping.{Placed, listFor, NodeReady}
 use Rattle.analysis.proofs.Pairs.{any-append, any-same}
 

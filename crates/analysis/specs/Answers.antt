@@ -14,7 +14,7 @@ use Rattle.reader.specs.declared.Reading.{Reading}
 use Rattle.reader.specs.declared.Reading.the-variants.{Readable, Unreadable}
 use Rattle.reader.specs.Scan.{readingOf}
 use Rattle.reader.specs.File.{fileModel}
-use Rattle.lists.specs.Building.{zeros, padded}
+use Rattle.filling.specs.Building.{zeros, padded}
 use Rattle.analysis.specs.declared.Answer.{Answer}
 use Rattle.analysis.specs.declared.Answer.the-variants.{Pass, Inconclusive, Refused}
 

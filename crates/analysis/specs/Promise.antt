@@ -14,7 +14,7 @@ use Rattle.network.specs.Promise.{NodePasses}
 use Rattle.records.specs.Bytes.{AreBytes}
 use Rattle.reader.specs.Scan.{readable, says}
 use Rattle.reader.specs.File.{fileModel}
-use Rattle.lists.specs.Building.{zeros}
+use Rattle.filling.specs.Building.{zeros}
 use Rattle.analysis.specs.Answers.{verdictOf, needed, analysisOf, areaAfter}
 
 -- document 01's verdict on the file s with a lent area

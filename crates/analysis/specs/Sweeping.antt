@@ -14,8 +14,8 @@ use Rattle.records.specs.declared.Record.{Record}
 use Rattle.records.specs.Kinds.{leafKind, joinKind, hideKind, renameKind, is}
 use Rattle.reader.specs.Scan.{readable, says}
 use Rattle.reader.specs.File.{fileModel}
-use Rattle.lists.specs.Entries.{AllInside, KeepsOthers}
-use Rattle.lists.specs.Building.{padded}
+use Rattle.entries.specs.Entries.{AllInside, KeepsOthers}
+use Rattle.filling.specs.Building.{padded}
 use Rattle.analysis.specs.declared.Operands.{Operands}
 use Rattle.analysis.specs.Answers.{needed, sectionsOf}
 

@@ -13,13 +13,13 @@ ghost use Rattle.records.specs.Kinds.{leafKind, is};
 ghost use Rattle.tests.specs.FirstHit.{refusal};
 ghost use Rattle.reader.specs.Scan.{readable, says};
 ghost use Rattle.reader.specs.File.{fileModel};
-ghost use Rattle.lists.specs.Building.{zeros, Gives};
+ghost use Rattle.filling.specs.Building.{zeros, Gives};
 ghost use Rattle.analysis.specs.Answers.{answerFor, analysisOf, areaAfter, passOf, sectionsAfter};
 ghost use Rattle.analysis.specs.Sweeping.{Placed, operandsOf, pairPlace, hiddenPairs, leftOf, rightOf, listFor};
 ghost use Rattle.analysis.specs.Sweeping.{NodeReady, Built, Swept};
 use events::EventSet;
-use lists::PairList;
-use lists::Tally;
+use filling::PairList;
+use filling::Tally;
 use reader::Reading;
 use records::Record;
 use tests::Refusal;
@@ -110,7 +110,7 @@ fn hidden_pairs(r: Record, count: usize) -> usize
 fn lacks_first(x: u32) -> bool
     ensures { λ r. ⌜ r ≡ isEmpty (firstOf x) ⌝ }
 {
-    let f = lists::first_of(x);
+    let f = entries::first_of(x);
     f.is_empty()
 }
 
@@ -118,7 +118,7 @@ fn lacks_first(x: u32) -> bool
 fn is_swallowed(x: u32, set: u32) -> bool
     ensures { λ r. ⌜ r ≡ included room (firstOf x) set ⌝ }
 {
-    let f = lists::first_of(x);
+    let f = entries::first_of(x);
     f.is_included(EventSet { bits: set })
 }
 
@@ -204,7 +204,7 @@ fn build(bytes: &[u8], n: u32, r: Record, o: Operands, k: usize, area: &mut [u32
         return t;
     }
     let at = 256 * k;
-    lists::store(list, &mut area[at..at + 256]);
+    filling::store(list, &mut area[at..at + 256]);
     t
 }
 

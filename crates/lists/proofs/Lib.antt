@@ -1,12 +1,1 @@
-pub mod Entries
-pub mod Candidates
-pub mod Images
-pub mod Places
-pub mod Fillings
-pub mod Loops
-pub mod Storing
-pub mod Filled
-pub mod Narrower
-pub mod Inside
 pub mod Promise
-pub mod Unique

@@ -8,12 +8,12 @@ use lib.ListN.{length}
 use Rattle.network.specs.Lists.{inOrder}
 use Rattle.network.specs.Verdict.{mostPairs}
 use Rattle.network.proofs.Packing.{first-pack, second-pack, pack-unpack}
-use Rattle.lists.specs.Building.{fits, wentOver, filled}
+use Rattle.filling.specs.Building.{fits, wentOver, filled}
 use Rattle.lists.specs.Promise.{PackedIsFound, FoundIsPacked, JoinGivesRule, HideGivesRule, RenameGivesRule}
 use Rattle.lists.specs.Promise.{ListsInside, OrderDoesNotMatter, OverStaysOver}
-use Rattle.lists.proofs.Filled.{filled-over-is, filled-is, made-gives, filled-stays, in-order-ext}
-use Rattle.lists.proofs.Narrower.{join-candidates-narrower, hide-candidates-narrower, rename-candidates-narrower}
-use Rattle.lists.proofs.Inside.{list-inside}
+use Rattle.filling.proofs.Filled.{filled-over-is, filled-is, made-gives, filled-stays, in-order-ext}
+use Rattle.entries.proofs.Narrower.{join-candidates-narrower, hide-candidates-narrower, rename-candidates-narrower}
+use Rattle.entries.proofs.Inside.{list-inside}
 
 pub packed-is-found : PackedIsFound
 unfolding PackedIsFound

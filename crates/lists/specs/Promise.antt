@@ -7,8 +7,8 @@ use Prim.Native.Nat.{ℕ, _^_, _<_, _≤_}
 use Rattle.network.specs.Network.{Network, TargetsBelow}
 use Rattle.network.specs.Lists.{pack, firstOf, secondOf, inOrder, joinCandidates, hideCandidate, renameCandidate}
 use Rattle.network.specs.Lists.{listOf}
-use Rattle.lists.specs.Entries.{width, AllInside, KeepsOthers}
-use Rattle.lists.specs.Building.{wentOver, filled, Made, Gives}
+use Rattle.entries.specs.Entries.{width, AllInside, KeepsOthers}
+use Rattle.filling.specs.Building.{wentOver, filled, Made, Gives}
 
 -- 1. An entry is a pair: what is packed is found again, and every entry is what its two sets pack to
 unfoldable pub PackedIsFound : Type 0

@@ -3,7 +3,7 @@ use native.Mathlib.Omega.{arith}
 use mathlib.Core.Path.{_≡_, refl}
 use Prim.Native.Nat.{_≤_, _-_}
 use lib.ListN.{length, take, length-set}
-use Rattle.lists.specs.Building.{zeros}
+use Rattle.filling.specs.Building.{zeros}
 use Rattle.analysis.proofs.Clearing.{clear-step, clear-end}
 use Rattle.analysis.proofs.clear.Statement.{statement}
 use Rattle.analysis.proofs.clear.Tie as tie

@@ -1,5 +1,5 @@
-use Rattle.lists.proofs.Loops.{held-new, going-on, going-last, join-start}
-use Rattle.lists.specs.Entries.{width}
+use Rattle.filling.proofs.Loops.{held-new, going-on, going-last, join-start}
+use Rattle.entries.specs.Entries.{width}
 use Rattle.network.specs.Lists.{togetherCandidate, aloneCandidate}
 use mathlib.Core.List.{flatMap, _++_}
 use Rattle.lists.proofs.join.Statement.{statement}

@@ -1,7 +1,7 @@
-use Rattle.lists.proofs.Loops.{Going, going-start, gather-on, gather-end}
-use Rattle.lists.proofs.Candidates.{alone-is}
-use Rattle.lists.specs.Building.{stateOf, offerAll}
-use Rattle.lists.specs.Entries.{width}
+use Rattle.filling.proofs.Loops.{Going, going-start, gather-on, gather-end}
+use Rattle.entries.proofs.Candidates.{alone-is}
+use Rattle.filling.specs.Building.{stateOf, offerAll}
+use Rattle.entries.specs.Entries.{width}
 use Rattle.network.specs.Lists.{aloneCandidate}
 use lib.ListN.{length, take, drop}
 use Prim.Native.Nat.{_-_, _≤_}

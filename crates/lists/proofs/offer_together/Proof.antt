@@ -1,6 +1,6 @@
-use Rattle.lists.proofs.Loops.{Going, going-start, going-over, gather-on, gather-end}
-use Rattle.lists.specs.Building.{stateOf, offerAll}
-use Rattle.lists.specs.Entries.{width}
+use Rattle.filling.proofs.Loops.{Going, going-start, going-over, gather-on, gather-end}
+use Rattle.filling.specs.Building.{stateOf, offerAll}
+use Rattle.entries.specs.Entries.{width}
 use Rattle.network.specs.Lists.{togetherCandidate}
 use lib.ListN.{length, take, drop}
 use Prim.Native.Nat.{ℕ, _+_, _-_, _≤_}

@@ -1,6 +1,6 @@
-use Rattle.lists.proofs.Loops.{Going, filled-start, map-on, map-end}
-use Rattle.lists.specs.Building.{filled}
-use Rattle.lists.specs.Entries.{width}
+use Rattle.filling.proofs.Loops.{Going, filled-start, map-on, map-end}
+use Rattle.filling.specs.Building.{filled}
+use Rattle.entries.specs.Entries.{width}
 use Rattle.network.specs.Lists.{renameCandidate}
 use lib.ListN.{length, drop}
 use Prim.Native.Nat.{_-_, _≤_}
