@@ -17,12 +17,13 @@ use Rattle.reader.specs.declared.Reading.the-variants.{Readable, Unreadable}
 use Rattle.reader.specs.Scan.{readingOf}
 use Rattle.reader.specs.File.{fileModel}
 use Rattle.filling.specs.Building.{zeros}
-use Rattle.analysis.specs.declared.Answer.{Answer}
-use Rattle.analysis.specs.declared.Answer.the-variants.{Pass, Inconclusive, Refused}
-use Rattle.analysis.specs.declared.Passed.{Passed}
-use Rattle.analysis.specs.Answers.{answerFor, needed, sectionsFor, passOf, sectionsAfter, answerAt, areaAt}
-use Rattle.analysis.specs.Answers.{analysisOf, areaAfter}
-use Rattle.analysis.specs.Sweeping.{BehindKept, Swept}
+use Rattle.verdict.specs.declared.Answer.{Answer}
+use Rattle.verdict.specs.declared.Answer.the-variants.{Pass, Inconclusive, Refused}
+use Rattle.verdict.specs.declared.Passed.{Passed}
+use Rattle.verdict.specs.Answers.{answerFor, needed, sectionsFor}
+use Rattle.analysis.specs.Analysis.{passOf, sectionsAfter, answerAt, areaAt}
+use Rattle.analysis.specs.Analysis.{analysisOf, areaAfter}
+use Rattle.verdict.specs.Sweeping.{BehindKept, Swept}
 
 -- an answer that is not a pass
 abbrev pub IsStop : Answer → Type 0

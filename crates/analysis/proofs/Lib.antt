@@ -1,14 +1,4 @@
-pub mod Wholeness
-pub mod Machines
 pub mod Counted
-pub mod Sections
-pub mod Pairs
-pub mod Seen
-pub mod Passing
-pub mod AtNode
-pub mod PairLoops
-pub mod NodeLists
-pub mod Sweeps
 pub mod Clearing
 pub mod Ends
 pub mod Numbers

@@ -19,7 +19,7 @@ use Rattle.reader.specs.declared.Scan.{Scan}
 use Rattle.reader.specs.declared.Scan.the-variants as Scanned
 use Rattle.reader.specs.declared.Reading.the-variants.{Unreadable}
 use Rattle.reader.specs.Scan.{scanFrom, scanOf, toReading, readingOf}
-use Rattle.analysis.specs.declared.Answer.the-variants.{Refused}
+use Rattle.verdict.specs.declared.Answer.the-variants.{Refused}
 
 most-of : (b : Bool) (x y : ℕ) → x ≤ 10 → y ≤ 10 → cond b x y ≤ 10
 most-of true x y p q = p

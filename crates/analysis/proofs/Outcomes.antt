@@ -15,9 +15,10 @@ use Rattle.reader.specs.declared.Reading.{Reading}
 use Rattle.reader.specs.declared.Reading.the-variants.{Readable, Unreadable}
 use Rattle.reader.specs.Scan.{saidOf, readingOf, readable, says}
 use Rattle.reader.specs.File.{fileModel}
-use Rattle.analysis.specs.Answers.{answerFor, verdictOf, needed, sectionsFor, passOf, sectionsAfter, answerAt}
-use Rattle.analysis.specs.Answers.{areaAt}
-use Rattle.analysis.specs.Answers.{analysisOf, areaAfter}
+use Rattle.verdict.specs.Answers.{answerFor, verdictOf, needed, sectionsFor}
+use Rattle.analysis.specs.Analysis.{passOf, sectionsAfter, answerAt}
+use Rattle.analysis.specs.Analysis.{areaAt}
+use Rattle.analysis.specs.Analysis.{analysisOf, areaAfter}
 use Rattle.analysis.specs.Promise.{verdictOn}
 use Rattle.analysis.proofs.Numbers.{reader-number}
 

@@ -26,10 +26,11 @@ use Rattle.reader.specs.File.{fileModel}
 use Rattle.reader.proofs.Formed.{model-formed}
 use Rattle.filling.specs.Building.{zeros, padded}
 use Rattle.filling.proofs.Fillings.{padded-take}
-use Rattle.analysis.specs.Answers.{needed, sectionsFor, areaAfter}
+use Rattle.verdict.specs.Answers.{needed, sectionsFor}
+use Rattle.analysis.specs.Analysis.{areaAfter}
 use Rattle.analysis.specs.Promise.{verdictOn, section, PassExactly, SectionsAreLists, PassBoundsSilence}
 use Rattle.analysis.specs.Promise.{InconclusiveIsFirst, ElevenIsFirst, TwelveNever}
-use Rattle.analysis.proofs.Sections.{AllFit, fit-at, section-at}
+use Rattle.verdict.proofs.Sections.{AllFit, fit-at, section-at}
 use Rattle.analysis.proofs.Outcomes.{Outcome, unread, roomless, judged, outcome, read-not}
 
 -- lists of which none is over fit their sections

@@ -4,8 +4,8 @@ use mathlib.Core.Path.{_≡_}
 use mathlib.Core.List.{List}
 use Prim.Native.Nat.{ℕ}
 use Rattle.events.proofs.Unique.{settled}
-use Rattle.analysis.specs.declared.Answer.{Answer}
-use Rattle.analysis.specs.Answers.{analysisOf, areaAfter}
+use Rattle.verdict.specs.declared.Answer.{Answer}
+use Rattle.analysis.specs.Analysis.{analysisOf, areaAfter}
 
 pub analyse-unique : (s area : List ℕ) (r r′ : Answer) (a a′ : List ℕ) → r ≡ analysisOf s area → a ≡ areaAfter s area
     → r′ ≡ analysisOf s area → a′ ≡ areaAfter s area → (r ≡ r′) × (a ≡ a′)

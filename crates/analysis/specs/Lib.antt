@@ -1,3 +1,2 @@
-pub mod Answers
-pub mod Sweeping
+pub mod Analysis
 pub mod Promise

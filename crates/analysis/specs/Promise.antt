@@ -15,7 +15,8 @@ use Rattle.records.specs.Bytes.{AreBytes}
 use Rattle.reader.specs.Scan.{readable, says}
 use Rattle.reader.specs.File.{fileModel}
 use Rattle.filling.specs.Building.{zeros}
-use Rattle.analysis.specs.Answers.{verdictOf, needed, analysisOf, areaAfter}
+use Rattle.verdict.specs.Answers.{verdictOf, needed}
+use Rattle.analysis.specs.Analysis.{analysisOf, areaAfter}
 
 -- document 01's verdict on the file s with a lent area
 unfoldable pub verdictOn : List ℕ → List ℕ → Verdict

@@ -2,8 +2,8 @@
 // entries are zero and how many untouched, and after a pass the pairs of each section; then in an area of just the
 // needed size, whose sections must be the same; then in one that is an entry short.
 ghost use Prim.Native.Nat.{_≤_};
-use analysis::Answer;
 use reader::Reading;
+use verdict::Answer;
 
 // The answer, in document 01's words and numbers; whether it is a pass.
 fn print_answer(a: Answer) -> bool {

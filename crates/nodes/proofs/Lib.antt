@@ -1,0 +1,3 @@
+pub mod Wholeness
+pub mod Machines
+pub mod NodeLists

@@ -1,0 +1,7 @@
+pub mod Sections
+pub mod Pairs
+pub mod Seen
+pub mod Passing
+pub mod AtNode
+pub mod PairLoops
+pub mod Sweeps

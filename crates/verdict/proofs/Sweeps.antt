@@ -1,0 +1,134 @@
+-- The loop over the nodes of a readable file: what holds whenever it comes round, and what each way out of it answers.
+-- Assumes nothing.
+use mathlib.Core.Path.{_≡_, sym, ap, _∙_}
+use mathlib.Core.Bool.{Bool, true, false}
+use mathlib.Core.List.{List}
+use Prim.Native.Nat.{ℕ, _+_, _*_, _≤_, _<_}
+use native.Mathlib.Omega.{arith}
+use lib.ListN.{length, set, replicate}
+use Rattle.network.specs.Model.{networks, nodeNetwork, bound}
+use Rattle.network.specs.Lists.{listOf, flagOf}
+use Rattle.network.specs.Verdict.{mostPairs, operandEmpty, verdict}
+use Rattle.network.proofs.Nodes.{networks-length}
+use Rattle.records.specs.declared.Record.{Record}
+use Rattle.records.specs.Bytes.{AreBytes}
+use Rattle.tests.specs.FirstHit.{refusal}
+use Rattle.reader.specs.Scan.{readable, says}
+use Rattle.reader.specs.File.{fileModel}
+use Rattle.reader.specs.Finding.{nodePlace, recordAt}
+use Rattle.reader.proofs.Formed.{model-formed}
+use Rattle.reader.proofs.Multiplying.{short}
+use Rattle.verdict.specs.declared.Answer.{Answer}
+use Rattle.verdict.specs.declared.Answer.the-variants.{Pass, Inconclusive, Refused}
+use Rattle.nodes.specs.declared.Operands.{Operands}
+use Rattle.verdict.specs.Answers.{answerFor}
+use Rattle.verdict.specs.Sweeping.{Swept}
+use Rattle.nodes.specs.Nodes.{Placed, operandsOf, leftOf, rightOf, listFor, Built}
+use Rattle.verdict.proofs.Passing.{Passing, pass-start, pass-ends, stop-empty, stop-flag, stop-over, go-on}
+use Rattle.verdict.proofs.Passing.{same-length}
+use Rattle.verdict.proofs.AtNode.{AtNode, placed-there, at-node}
+use Rattle.verdict.proofs.PairLoops.{SwallowSought, swallow-end}
+
+-- the loop over the nodes of the file s has come to node k
+pub record Sweeping (s : List ℕ) (n nodes : ℕ) (area₀ : List ℕ) (k : ℕ) (area counts : List ℕ) : Type 0 where
+  pub bytes-are : AreBytes s
+  pub read : says s ≡ readable
+  pub events-are : n ≡ fileModel s .events
+  pub nodes-are : nodes ≡ length (fileModel s .nodes)
+  pub room : mostPairs * nodes ≤ length area₀
+  pub upto : k ≤ nodes
+  pub passing : Passing (fileModel s) area₀ k area counts
+
+pub sweep-starts : (s : List ℕ) (n nodes : ℕ) (area : List ℕ) → AreBytes s
+    → (says s ≡ readable) × (n ≡ fileModel s .events) × (nodes ≡ length (fileModel s .nodes))
+    × (mostPairs * nodes ≤ length area)
+    → Sweeping s n nodes area 0 area (replicate 32 0)
+sweep-starts s n nodes area y w =
+    record {
+      bytes-are = y;
+      read = w .0;
+      events-are = w .1;
+      nodes-are = w .2;
+      room = w .3;
+      upto = omega arith;
+      passing = pass-start (fileModel s) area;
+    }
+
+-- an answer and an area are those that the pass over the file s from area₀ comes to
+abbrev pub Comes : List ℕ → List ℕ → Answer → List ℕ → Type 0
+Comes s area₀ r area = (r ≡ answerFor (verdict (fileModel s))) × Swept (fileModel s) (verdict (fileModel s)) area₀ area
+
+module _ (s : List ℕ) (n nodes : ℕ) (area₀ : List ℕ) (k : ℕ) (area counts : List ℕ)
+    (w : Sweeping s n nodes area₀ k area counts) where
+  pub short-file : length s ≤ 4096
+  short-file = short s (w .bytes-are) (w .read)
+
+  room-there : mostPairs * length (fileModel s .nodes) ≤ length area₀
+  room-there = omega (arith, w .room, w .nodes-are)
+
+  long : length (networks (fileModel s)) ≡ length (fileModel s .nodes)
+  long = networks-length (fileModel s) (model-formed s (w .bytes-are) (w .read) .well-formed)
+
+  pub length-kept : length area ≡ length area₀
+  length-kept = same-length (fileModel s) area₀ k area counts (w .passing) (omega (arith, w .room, w .upto))
+
+  -- all nodes are through
+  pub sweep-passes : nodes ≤ k → (b : ℕ) → b ≡ bound (fileModel s) → Comes s area₀ (Pass (record { bound = b })) area
+  sweep-passes h b e =
+      pass-ends (fileModel s) area₀ k area counts (w .passing) long (omega (arith, w .nodes-are)) b e
+
+  module _ (h : k < nodes) where
+    here : k < length (fileModel s .nodes)
+    here = omega (arith, w .nodes-are)
+
+    module _ (r : Record) (place : ℕ) (er : r ≡ recordAt s place) (ep : place ≡ nodePlace s k) where
+      record-is : r ≡ recordAt s (nodePlace s k)
+      record-is = er ∙ ap (λ (x : ℕ). recordAt s x) ep
+
+      pub sweep-placed : Placed r 32
+      sweep-placed =
+          placed-there s (w .bytes-are) (w .read) n (w .events-are) area₀ k area counts (w .passing) here r record-is
+
+      pub sweep-at : (o : Operands) → o ≡ operandsOf r counts → AtNode s area n k r o
+      sweep-at =
+          at-node s (w .bytes-are) (w .read) n (w .events-are) area₀ k area counts (w .passing) here r record-is
+          room-there
+
+    -- 12, and the flag
+    pub sweep-empty : (x : Answer) → x ≡ Refused (refusal 12 k)
+        → operandEmpty (fileModel s .events) (nodeNetwork (fileModel s) k) ≡ true → Comes s area₀ x area
+    sweep-empty x q e = rw q (stop-empty (fileModel s) area₀ k area counts (w .passing) long here room-there e)
+
+    pub sweep-flag : operandEmpty (fileModel s .events) (nodeNetwork (fileModel s) k) ≡ false
+        → flagOf (fileModel s .events) (nodeNetwork (fileModel s) k) ≡ true → Comes s area₀ (Inconclusive k) area
+    sweep-flag e f = stop-flag (fileModel s) area₀ k area counts (w .passing) long here room-there e f
+
+    -- the list is built: 11, or on to the next node
+    module _ (r : Record) (o : Operands) (left hidden j : ℕ) (a : SwallowSought s area n k r o left hidden j)
+        (end : hidden ≤ j) (count : ℕ) (over : Bool) (area′ : List ℕ)
+        (b : Built (listFor (fileModel s) r (leftOf o area) (rightOf o area)) k area count over area′) where
+      quiet : flagOf (fileModel s .events) (nodeNetwork (fileModel s) k) ≡ false
+      quiet = swallow-end s area n k r o left hidden j a end
+
+      built : Built (listOf (fileModel s .events) (nodeNetwork (fileModel s) k)) k area count over area′
+      built = rw (← a .seen .lists-are) b
+
+      pub sweep-over : over ≡ true → (x : Answer) → x ≡ Refused (refusal 11 k) → Comes s area₀ x area′
+      sweep-over q x e =
+          rw (e, b .area-stays q)
+          (stop-over (fileModel s) area₀ k area counts (w .passing) long here room-there (a .no-empty) quiet
+          (sym (built .over-exactly) ∙ q))
+
+      pub sweep-on : over ≡ false → Sweeping s n nodes area₀ (k + 1) area′ (set counts k count)
+      sweep-on q =
+          record {
+            bytes-are = w .bytes-are;
+            read = w .read;
+            events-are = w .events-are;
+            nodes-are = w .nodes-are;
+            room = w .room;
+            upto = omega arith;
+            passing =
+                go-on (fileModel s) area₀ k area counts (w .passing) long here room-there (a .seen .few) (a .no-empty)
+                quiet count area′ (rw q at built);
+          }
