@@ -18,7 +18,7 @@ use Rattle.reader.specs.declared.Reading.the-variants.{Readable, Unreadable}
 use Rattle.reader.specs.Scan.{scanOf, toReading, readingOf, saidOf, readable, says}
 use Rattle.reader.specs.File.{recordsFrom, recordsOf, nodesOf, nodeOf, eventCount, modelOf}
 use Rattle.reader.specs.File.{fileModel}
-use Rattle.reader.specs.Finding.{recordAt}
+use Rattle.places.specs.Finding.{recordAt}
 use Rattle.reader.proofs.Records.{records-next, Runs, runs}
 
 -- what was read of a readable file

@@ -29,7 +29,7 @@ fn pass_over(bytes: &[u8], nodes: u32, area: &mut [u32]) -> Answer
     if area.len() < need {
         return verdict::refused_at(13, 0);
     }
-    let header = reader::record_at(bytes, 0);
+    let header = places::record_at(bytes, 0);
     let v = verdict::sweep(bytes, header.number, nodes, area);
     match v {
         Answer::Pass(_) => {}

@@ -1,9 +1,4 @@
-pub mod Records
-pub mod Tables
-pub mod Linking
-pub mod Gathering
 pub mod Carrying
-pub mod Testing
 pub mod Enumeration
 pub mod Leaves
 pub mod Offering

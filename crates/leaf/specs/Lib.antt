@@ -1,4 +1,2 @@
-pub mod Steps
-pub mod Table
 pub mod Subsets
 pub mod Promise

@@ -1,3 +1,2 @@
-pub mod Wholeness
 pub mod Machines
 pub mod NodeLists

@@ -18,13 +18,13 @@ use Rattle.records.proofs.Choices.{cond-false}
 use Rattle.records.proofs.Sizes.{size-positive}
 use Rattle.reader.specs.Scan.{readable, says}
 use Rattle.reader.specs.File.{recordsFrom, recordsOf, labelOf, stepOf, stepsOf, modelOf, fileModel}
-use Rattle.reader.specs.Finding.{machinePlace, statesOf, stepsAt}
+use Rattle.places.specs.Finding.{machinePlace, statesOf, stepsAt}
 use Rattle.reader.proofs.Turns.{rest}
 use Rattle.reader.proofs.Records.{none-left, records-next}
-use Rattle.reader.proofs.Found.{machine-found}
+use Rattle.places.proofs.Found.{machine-found}
 use Rattle.reader.proofs.Formed.{model-formed}
-use Rattle.leaf.specs.Steps.{stepsIn, machineOf}
-use Rattle.nodes.proofs.Wholeness.{Whole, whole-next, machine-whole, whole-file}
+use Rattle.reach.specs.Steps.{stepsIn, machineOf}
+use Rattle.places.proofs.Wholeness.{Whole, whole-next, machine-whole, whole-file}
 
 -- the bytes b begin with step records that say the steps xs, four bytes each
 pub record SaysSteps (b : List ℕ) (xs : List Step) : Type 0 where

@@ -24,20 +24,20 @@ use Rattle.records.specs.Bytes.{AreBytes}
 use Rattle.records.proofs.Choices.{true-not-false}
 use Rattle.reader.specs.Scan.{readable, says}
 use Rattle.reader.specs.File.{fileModel}
-use Rattle.reader.specs.Finding.{machinePlace, statesOf, stepsAt}
+use Rattle.places.specs.Finding.{machinePlace, statesOf, stepsAt}
 use Rattle.reader.proofs.Formed.{model-formed}
-use Rattle.reader.proofs.Found.{machine-found}
+use Rattle.places.proofs.Found.{machine-found}
 use Rattle.entries.specs.Entries.{width}
 use Rattle.filling.specs.Building.{filled, padded, Made, Gives, stored}
 use Rattle.lists.specs.Promise.{JoinGivesRule, HideGivesRule, RenameGivesRule}
 use Rattle.filling.proofs.Fillings.{padded-length}
 use Rattle.lists.proofs.Promise.{join-gives-rule, hide-gives-rule, rename-gives-rule}
-use Rattle.leaf.specs.Steps.{stepsIn, machineOf, AllEndBelow}
-use Rattle.leaf.specs.Table.{mostStates}
+use Rattle.reach.specs.Steps.{stepsIn, machineOf, AllEndBelow}
+use Rattle.reach.specs.Table.{mostStates}
 use Rattle.leaf.specs.Subsets.{subsetsOf}
 use Rattle.leaf.specs.Promise.{PairsGiveList}
 use Rattle.leaf.proofs.Promise.{pairs-give-list}
-use Rattle.leaf.proofs.Records.{formed-ends}
+use Rattle.reach.proofs.Records.{formed-ends}
 use Rattle.nodes.specs.declared.Operands.{Operands}
 use Rattle.nodes.specs.Nodes.{leftOf, rightOf, listFor, NodeReady, Built}
 use Rattle.nodes.proofs.Machines.{named, steps-within, machine-is, named-formed, named-states}

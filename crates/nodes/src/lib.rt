@@ -70,9 +70,9 @@ pub fn is_spinning_leaf(bytes: &[u8], r: Record) -> bool
     if r.kind != records::LEAF {
         return false;
     }
-    let at = reader::machine_place(bytes, r.number) + 2;
-    let end = at + 4 * reader::steps_at(bytes, at) as usize;
-    leaf::is_spinning(&bytes[at..end], reader::states_of(bytes, r.number))
+    let at = places::machine_place(bytes, r.number) + 2;
+    let end = at + 4 * places::steps_at(bytes, at) as usize;
+    leaf::is_spinning(&bytes[at..end], places::states_of(bytes, r.number))
 }
 
 // The list of a leaf of machine m.
@@ -86,9 +86,9 @@ fn leaf_list(bytes: &[u8], m: u32, n: u32) -> PairList
         (r .count) (r .over) (r .entries)
         ⌝ }
 {
-    let at = reader::machine_place(bytes, m) + 2;
-    let end = at + 4 * reader::steps_at(bytes, at) as usize;
-    leaf::pairs(&bytes[at..end], reader::states_of(bytes, m), n)
+    let at = places::machine_place(bytes, m) + 2;
+    let end = at + 4 * places::steps_at(bytes, at) as usize;
+    leaf::pairs(&bytes[at..end], places::states_of(bytes, m), n)
 }
 
 // The list of a node, from its operands'.

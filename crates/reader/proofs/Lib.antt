@@ -25,11 +25,6 @@ pub mod ModelBack
 pub mod EncodedBytes
 pub mod Endings
 pub mod EncodingReads
-pub mod Seeking
-pub mod Counting
-pub mod Found
-pub mod Bounding
-pub mod Multiplying
 pub mod Promise
-pub mod Unique
 pub mod Cases
+pub mod Unique

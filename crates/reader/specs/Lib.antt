@@ -1,6 +1,5 @@
 pub mod Scan
 pub mod File
 pub mod Encoding
-pub mod Finding
 pub mod Promise
 pub mod Cases

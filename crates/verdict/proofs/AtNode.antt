@@ -16,7 +16,7 @@ use Rattle.records.specs.Kinds.{leafKind, joinKind, hideKind, is}
 use Rattle.records.specs.Bytes.{AreBytes}
 use Rattle.reader.specs.Scan.{readable, says}
 use Rattle.reader.specs.File.{fileModel}
-use Rattle.reader.specs.Finding.{nodePlace, recordAt}
+use Rattle.places.specs.Finding.{nodePlace, recordAt}
 use Rattle.reader.proofs.Formed.{model-formed}
 use Rattle.nodes.specs.declared.Operands.{Operands}
 use Rattle.verdict.specs.Sweeping.{hiddenPairs}

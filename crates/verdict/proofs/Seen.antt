@@ -25,8 +25,8 @@ use Rattle.records.proofs.Choices.{true-not-false}
 use Rattle.reader.specs.Scan.{readable, says}
 use Rattle.reader.specs.File.{nodeOf, fileModel}
 use Rattle.reader.specs.Encoding.{TargetsFilled}
-use Rattle.reader.specs.Finding.{nodePlace, recordAt}
-use Rattle.reader.proofs.Found.{node-found}
+use Rattle.places.specs.Finding.{nodePlace, recordAt}
+use Rattle.places.proofs.Found.{node-found}
 use Rattle.reader.proofs.Formed.{model-formed}
 use Rattle.entries.specs.Entries.{AllInside, KeepsOthers}
 use Rattle.entries.proofs.Inside.{list-inside}

@@ -15,9 +15,9 @@ use Rattle.records.specs.Bytes.{AreBytes}
 use Rattle.tests.specs.FirstHit.{refusal}
 use Rattle.reader.specs.Scan.{readable, says}
 use Rattle.reader.specs.File.{fileModel}
-use Rattle.reader.specs.Finding.{nodePlace, recordAt}
+use Rattle.places.specs.Finding.{nodePlace, recordAt}
 use Rattle.reader.proofs.Formed.{model-formed}
-use Rattle.reader.proofs.Multiplying.{short}
+use Rattle.places.proofs.Multiplying.{short}
 use Rattle.verdict.specs.declared.Answer.{Answer}
 use Rattle.verdict.specs.declared.Answer.the-variants.{Pass, Inconclusive, Refused}
 use Rattle.nodes.specs.declared.Operands.{Operands}

@@ -92,10 +92,10 @@ pub fn sweep(bytes: &[u8], n: u32, nodes: u32, area: &mut [u32]) -> Answer
     let v = 'nodes: loop {
         if nodes <= k {
             break Answer::Pass(Passed {
-                bound: reader::bound_of(bytes),
+                bound: places::bound_of(bytes),
             });
         }
-        let r = reader::record_at(bytes, reader::node_place(bytes, k));
+        let r = places::record_at(bytes, places::node_place(bytes, k));
         let o = nodes::operands_of(r, &counts);
         let pairs = o.lefts + o.rights;
         let mut i = 0;

@@ -26,7 +26,8 @@ use Rattle.reader.proofs.Readings.{stopped-says, refused-says}
 use Rattle.reader.proofs.Records.{records-next}
 use Rattle.reader.proofs.Cut.{Cut, inside-first, behind-first, cut-scan}
 use Rattle.writer.specs.declared.Written.the-variants.{Rejected}
-use Rattle.writer.specs.Append.{handedIn, afterScan, answerOf, bufferOf}
+use Rattle.writer.specs.Append.{afterScan, answerOf, bufferOf}
+use Rattle.handing.specs.Handing.{handedIn}
 use Rattle.writer.specs.Promise.{Succeeds, usedPart}
 use Rattle.writer.proofs.Answers.{rejected}
 use Rattle.writer.proofs.Clean.{CleanTurn, at-end, goes-on, clean-turn, clean-place, rest-length}

@@ -25,7 +25,7 @@ use Rattle.records.proofs.Sizes.{size-most}
 use Rattle.tests.proofs.MayStand.{NodeMay, Met, header-met, machine-met, step-met, leaf-met, join-met, hide-met}
 use Rattle.tests.proofs.MayStand.{rename-met, end-met}
 use Rattle.tests.proofs.Meeting.{met-out}
-use Rattle.writer.specs.Append.{lowByte}
+use Rattle.handing.specs.Handing.{lowByte}
 
 -- what every scan keeps to before an end, of the numbers that the tests compare with, and of the place
 pub record Kept (g : Progress) : Type 0 where

@@ -1,5 +1,3 @@
-pub mod Copying
-pub mod Handing
 pub mod Answers
 pub mod Clean
 pub mod Fitting
@@ -9,5 +7,5 @@ pub mod RoundTrip
 pub mod Success
 pub mod Brownout
 pub mod Promise
-pub mod Unique
 pub mod Cases
+pub mod Unique

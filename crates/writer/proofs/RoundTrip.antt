@@ -33,8 +33,10 @@ use Rattle.reader.proofs.Bytes.{file-bytes}
 use Rattle.reader.proofs.OneEncoding.{file-listing}
 use Rattle.reader.proofs.EncodingReads.{encoding-reads}
 use Rattle.writer.specs.declared.Written.the-variants.{Appended}
-use Rattle.writer.specs.Append.{handedIn, answerOf, bufferOf}
-use Rattle.writer.specs.Writing.{numbersOf, calls, andThen, writeAll}
+use Rattle.writer.specs.Append.{answerOf, bufferOf}
+use Rattle.handing.specs.Handing.{handedIn}
+use Rattle.writer.specs.Writing.{calls, andThen, writeAll}
+use Rattle.handing.specs.Handing.{numbersOf}
 use Rattle.writer.proofs.Clean.{clean-place}
 use Rattle.writer.proofs.Appending.{other-stops, appends, appends-buffer}
 

@@ -13,7 +13,7 @@ use Rattle.progress.specs.Progress.{start}
 use Rattle.tests.proofs.Passing.{passed-out}
 use Rattle.records.proofs.Sizes.{size-most}
 use Rattle.reader.specs.Scan.{scanOf}
-use Rattle.writer.specs.Append.{lowByte}
+use Rattle.handing.specs.Handing.{lowByte}
 use Rattle.writer.proofs.Answers.{Success}
 use Rattle.writer.proofs.Clean.{clean-keeps, clean-place}
 use Rattle.writer.proofs.Fitting.{Kept, kept-start, kept-keeps, InForm, bytes-fit}

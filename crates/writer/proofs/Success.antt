@@ -28,9 +28,10 @@ use Rattle.reader.specs.declared.Scan.the-variants.{Stopped, Finished}
 use Rattle.reader.specs.Scan.{scanOf, readable, refused, says}
 use Rattle.reader.proofs.Readings.{readable-in, stopped-says}
 use Rattle.writer.specs.declared.Written.the-variants.{Appended, Rejected}
-use Rattle.writer.specs.Append.{handedIn, afterScan, answerOf, bufferAfter, bufferOf}
+use Rattle.writer.specs.Append.{afterScan, answerOf, bufferAfter, bufferOf}
+use Rattle.handing.specs.Handing.{handedIn}
 use Rattle.writer.specs.Promise.{Succeeds, usedPart}
-use Rattle.writer.proofs.Handing.{handed-any, handed-kind}
+use Rattle.handing.proofs.Handing.{handed-any, handed-kind}
 use Rattle.writer.proofs.Answers.{Success, success-out, answer-is}
 use Rattle.writer.proofs.Appending.{end-finishes, other-stops}
 use Rattle.writer.proofs.Clean.{clean-keeps, clean-place}

@@ -2,15 +2,12 @@
 -- record ..". Assumes nothing.
 use mathlib.Core.Bool.{cond}
 use mathlib.Core.List.{List, _++_}
-use Prim.Native.Nat.{ℕ, _+_, _-_, _%_}
+use Prim.Native.Nat.{ℕ, _+_, _-_}
 use lib.Dec.{ltb, eqb}
-use lib.ListN.{length, take, drop, getD}
+use lib.ListN.{length, take, drop}
 use Rattle.records.specs.declared.Record.{Record}
 use Rattle.progress.specs.declared.Progress.{Progress}
-use Rattle.records.specs.Kinds.{headerKind, machineKind, stepKind, leafKind, joinKind, hideKind, renameKind, endKind}
 use Rattle.records.specs.Kinds.{sizeOf}
-use Rattle.records.specs.Records.{headerRecord, machineRecord, stepRecord, leafRecord, joinRecord, hideRecord}
-use Rattle.records.specs.Records.{renameRecord, endRecord, otherRecord}
 use Rattle.records.specs.Bytes.{bytesOf}
 use Rattle.tests.specs.FirstHit.{firstHit, refusal}
 use Rattle.reader.specs.declared.Scan.{Scan}
@@ -18,27 +15,6 @@ use Rattle.reader.specs.declared.Scan.the-variants.{Stopped, Finished, Refused}
 use Rattle.reader.specs.Scan.{scanOf}
 use Rattle.writer.specs.declared.Written.{Written}
 use Rattle.writer.specs.declared.Written.the-variants.{Appended, Rejected}
-
--- a number as one byte of it, the lowest
-abbrev pub lowByte : ℕ → ℕ
-lowByte x = x % 256
-
--- the record that a kind k and its numbers xs say, behind `used` bytes: numbers that the kind doesn't use are ignored,
--- and the end's count is filled in
-unfoldable pub handedIn : ℕ → ℕ → List ℕ → Record
-handedIn used k xs =
-    let x = getD xs 0 0 in
-    let y = getD xs 1 0 in
-    let z = getD xs 2 0 in
-    cond (eqb k headerKind) (headerRecord x)
-    (cond (eqb k machineKind) (machineRecord x)
-    (cond (eqb k stepKind) (stepRecord x y z)
-    (cond (eqb k leafKind) (leafRecord x)
-    (cond (eqb k joinKind) (joinRecord x y z)
-    (cond (eqb k hideKind) (hideRecord x y)
-    (cond (eqb k renameKind) (renameRecord x (take 16 (drop 1 xs)))
-    (cond (eqb k endKind) (endRecord used)
-    (otherRecord k))))))))
 
 -- record r behind what g says, in a buffer of `size` bytes: tested as the reader would, without test 2; then room, 13
 unfoldable pub tested : ℕ → ℕ → Record → Progress → Written

@@ -16,7 +16,8 @@ use Rattle.reader.specs.File.{recordsOf, fileModel}
 use Rattle.reader.specs.Encoding.{modelRecords, encode, Encodable}
 use Rattle.reader.specs.Promise.{startOf}
 use Rattle.writer.specs.declared.Written.the-variants.{Appended, Rejected}
-use Rattle.writer.specs.Append.{handedIn, answerOf, bufferOf}
+use Rattle.writer.specs.Append.{answerOf, bufferOf}
+use Rattle.handing.specs.Handing.{handedIn}
 use Rattle.writer.specs.Writing.{calls, writeAll}
 
 -- a call with kind k and numbers xs behind `used` bytes of b was a success and left `end` used bytes

@@ -5,7 +5,7 @@ use lib.Seq.{length-take-le}
 use Rattle.records.specs.declared.Record.{Record}
 use Rattle.reader.specs.File.{fileModel}
 use Rattle.reader.proofs.Size.{size-limits}
-use Rattle.reader.proofs.Multiplying.{bytes-in}
+use Rattle.places.proofs.Multiplying.{bytes-in}
 use Rattle.analysis.proofs.Counted.{events-are}
 use Rattle.analysis.proofs.Ends.{need-is, no-room, ends-pass, ends-stop, stops-inconclusive, stops-refused}
 use borrow.Author.Needs.{needs}

@@ -1,10 +1,10 @@
 use Rattle.nodes.proofs.NodeLists.{row-within, row-states, row-ends, row-spins, no-leaf, leaf-flag}
 use Rattle.nodes.proofs.Machines.{steps-within}
-use Rattle.reader.specs.Finding.{statesOf}
+use Rattle.places.specs.Finding.{statesOf}
 use mathlib.Core.Path.{refl}
 use borrow.Author.Tests.{eq-eqb}
 use native.Mathlib.Omega.{arith}
-use Rattle.reader.proofs.Multiplying.{bytes-in, short}
+use Rattle.places.proofs.Multiplying.{bytes-in, short}
 use borrow.Author.Needs.{needs}
 use Rattle.nodes.proofs.is_spinning_leaf.Statement.{statement}
 use Rattle.nodes.proofs.is_spinning_leaf.Tie as tie

@@ -1,9 +1,9 @@
 use Rattle.nodes.proofs.NodeLists.{row-within, row-asked, row-list}
 use Rattle.nodes.proofs.Machines.{steps-within}
-use Rattle.reader.specs.Finding.{statesOf}
+use Rattle.places.specs.Finding.{statesOf}
 use mathlib.Core.Path.{refl}
 use native.Mathlib.Omega.{arith}
-use Rattle.reader.proofs.Multiplying.{bytes-in, short}
+use Rattle.places.proofs.Multiplying.{bytes-in, short}
 use borrow.Author.Needs.{needs}
 use Rattle.nodes.proofs.leaf_list.Statement.{statement}
 use Rattle.nodes.proofs.leaf_list.Tie as tie

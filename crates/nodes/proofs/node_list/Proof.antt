@@ -1,7 +1,7 @@
 use Rattle.nodes.proofs.NodeLists.{leaf-gives, join-gives, rename-gives, hide-gives}
 use borrow.Author.Tests.{eq-eqb}
 use native.Mathlib.Omega.{arith}
-use Rattle.reader.proofs.Multiplying.{bytes-in}
+use Rattle.places.proofs.Multiplying.{bytes-in}
 use borrow.Author.Needs.{needs}
 use Rattle.nodes.proofs.node_list.Statement.{statement}
 use Rattle.nodes.proofs.node_list.Tie as tie

@@ -3,7 +3,7 @@ use native.Mathlib.Omega.{arith}
 use lib.ListN.{length}
 use mathlib.Core.Path.{refl, sym, ap, _∙_}
 use Prim.Native.Nat.{_-_}
-use Rattle.reader.proofs.Multiplying.{bytes-in}
+use Rattle.places.proofs.Multiplying.{bytes-in}
 use Rattle.verdict.proofs.PairLoops.{SwallowSought, swallow-start, hidden-in, swallow-on, swallow-hit}
 use Rattle.verdict.proofs.PairLoops.{spin-flag}
 use Rattle.verdict.proofs.PairLoops.{EmptySought, empty-start, pair-in, places-low, empty-on, empty-hit}

@@ -5,9 +5,9 @@ use mathlib.Core.Path.{sym, _∙_}
 use lib.ListN.{length}
 use Rattle.writer.proofs.Storing.{stored-fits, stored-is}
 use Rattle.writer.proofs.Fitting.{InForm}
-use Rattle.writer.proofs.Handing.{handed-targets}
+use Rattle.handing.proofs.Handing.{handed-targets}
 use Rattle.writer.proofs.Answers.{success-out, over-buffer, over-file, rejected, appended}
-use Rattle.writer.specs.Append.{handedIn}
+use Rattle.handing.specs.Handing.{handedIn}
 use Rattle.writer.proofs.append.Statement.{statement}
 use Rattle.writer.proofs.append.Tie as tie
 

@@ -3,7 +3,7 @@ use mathlib.Core.Path.{_≡_, refl}
 use Prim.Native.Nat.{_-_, _≤_}
 use lib.Seq.{paste, paste-zero}
 use lib.ListN.{length, length-set}
-use Rattle.writer.proofs.Copying.{copy-next}
+use Rattle.handing.proofs.Copying.{copy-next}
 use Rattle.writer.proofs.store.Statement.{statement}
 use Rattle.writer.proofs.store.Tie as tie
 

@@ -1,0 +1,172 @@
+-- The record that is handed in, by its kind; and the bytes of a record of each kind, as the code lays them out.
+-- Assumes nothing.
+use mathlib.Core.Path.{_≡_, refl, sym, ap, _∙_}
+use mathlib.Core.Bool.{Bool, true, false, cond}
+use mathlib.Core.List.{List, [], _∷_, map}
+use Prim.Native.Nat.{ℕ, zero, suc, _/_, _≤_}
+use native.Mathlib.Omega.{arith}
+use native.Mathlib.Decide.{ℕ-discrete, decLe}
+use lib.Dec.{eqb}
+use lib.ListN.{length, take, drop, replicate, length-map, length-take}
+use lib.Seq.{paste, take-all, take-at}
+use borrow.Author.Tests.{ne-eqb, eqb-true}
+use Rattle.records.specs.declared.Record.{Record}
+use Rattle.records.specs.Kinds.{sizeOf, bodyLength, headerKind, machineKind, stepKind, leafKind, joinKind, hideKind}
+use Rattle.records.specs.Kinds.{renameKind, endKind}
+use Rattle.records.specs.Records.{headerRecord, machineRecord, stepRecord, leafRecord, joinRecord, hideRecord}
+use Rattle.records.specs.Records.{renameRecord, endRecord, otherRecord, noTargets}
+use Rattle.records.specs.Bytes.{bytesOf}
+use Rattle.records.proofs.Sizes.{each-kind, size-beyond}
+use Rattle.handing.specs.Handing.{lowByte, handedIn}
+use Rattle.handing.specs.Handing.{numbersOf}
+
+-- a kind that is none of the eight
+pub handed-other : (used k : ℕ) (xs : List ℕ) → (k ≡ headerKind → ⊥) → (k ≡ machineKind → ⊥) → (k ≡ stepKind → ⊥)
+    → (k ≡ leafKind → ⊥) → (k ≡ joinKind → ⊥) → (k ≡ hideKind → ⊥) → (k ≡ renameKind → ⊥) → (k ≡ endKind → ⊥)
+    → handedIn used k xs ≡ otherRecord k
+unfolding handedIn
+handed-other used k xs a b c d e f g h =
+    simp (
+      ne-eqb k headerKind a,
+      ne-eqb k machineKind b,
+      ne-eqb k stepKind c,
+      ne-eqb k leafKind d,
+      ne-eqb k joinKind e,
+      ne-eqb k hideKind f,
+      ne-eqb k renameKind g,
+      ne-eqb k endKind h,
+    )
+
+-- and its size
+other-size : (k : ℕ) → (k ≡ headerKind → ⊥) → (k ≡ machineKind → ⊥) → (k ≡ stepKind → ⊥) → (k ≡ leafKind → ⊥)
+    → (k ≡ joinKind → ⊥) → (k ≡ hideKind → ⊥) → (k ≡ renameKind → ⊥) → (k ≡ endKind → ⊥) → sizeOf k ≡ 1
+unfolding sizeOf bodyLength
+other-size zero a b c d e f g h = refl
+other-size (suc k) a b c d e f g h = at (decLe 9 (suc k))
+  where
+    at : Dec (9 ≤ suc k) → sizeOf (suc k) ≡ 1
+    at (yes l) = size-beyond (suc k) l
+    at (no l) =
+        absurd (each-kind (λ j. suc k ≡ j → ⊥) a b c d e f g h (suc k) (omega arith) (omega arith) refl)
+
+low-twice : (x : ℕ) → lowByte x ≡ lowByte (lowByte x)
+low-twice x = omega arith
+
+-- the bytes of a record of each kind, with anything behind them
+module _ (r : Record) (z : List ℕ) where
+  pub bytes-step : r .kind ≡ stepKind
+      → take (sizeOf (r .kind)) (lowByte (r .kind) ∷ lowByte (r .from) ∷ lowByte (r .label) ∷ lowByte (r .to) ∷ z)
+      ≡ map lowByte (bytesOf r)
+  unfolding bytesOf sizeOf bodyLength
+  bytes-step q = rw q
+
+  pub bytes-join : r .kind ≡ joinKind
+      → take (sizeOf (r .kind))
+      (lowByte (r .kind) ∷ lowByte (r .left) ∷ lowByte (r .right) ∷ lowByte (r .set) ∷ lowByte (r .set / 256) ∷ z)
+      ≡ map lowByte (bytesOf r)
+  unfolding bytesOf sizeOf bodyLength
+  bytes-join q =
+      rw q (ap (λ (x : ℕ). 5 ∷ lowByte (r .left) ∷ lowByte (r .right) ∷ x ∷ lowByte (r .set / 256) ∷ [])
+      (low-twice (r .set)))
+
+  pub bytes-hide : r .kind ≡ hideKind
+      → take (sizeOf (r .kind)) (lowByte (r .kind) ∷ lowByte (r .left) ∷ lowByte (r .set) ∷ lowByte (r .set / 256) ∷ z)
+      ≡ map lowByte (bytesOf r)
+  unfolding bytesOf sizeOf bodyLength
+  bytes-hide q = rw q (ap (λ (x : ℕ). 6 ∷ lowByte (r .left) ∷ x ∷ lowByte (r .set / 256) ∷ []) (low-twice (r .set)))
+
+  pub bytes-end : r .kind ≡ endKind
+      → take (sizeOf (r .kind)) (lowByte (r .kind) ∷ lowByte (r .number) ∷ lowByte (r .number / 256) ∷ z)
+      ≡ map lowByte (bytesOf r)
+  unfolding bytesOf sizeOf bodyLength
+  bytes-end q = rw q (ap (λ (x : ℕ). 8 ∷ x ∷ lowByte (r .number / 256) ∷ []) (low-twice (r .number)))
+
+  -- a header, a machine or a leaf; a record of no kind has its kind's byte alone
+  pub bytes-number : (r .kind ≡ stepKind → ⊥) → (r .kind ≡ joinKind → ⊥) → (r .kind ≡ hideKind → ⊥)
+      → (r .kind ≡ renameKind → ⊥) → (r .kind ≡ endKind → ⊥)
+      → take (sizeOf (r .kind)) (lowByte (r .kind) ∷ lowByte (r .number) ∷ z) ≡ map lowByte (bytesOf r)
+  unfolding bytesOf sizeOf bodyLength
+  bytes-number a b c d e =
+      at (ℕ-discrete (r .kind) headerKind) (ℕ-discrete (r .kind) machineKind) (ℕ-discrete (r .kind) leafKind)
+    where
+      at : Dec (r .kind ≡ headerKind) → Dec (r .kind ≡ machineKind) → Dec (r .kind ≡ leafKind)
+          → take (sizeOf (r .kind)) (lowByte (r .kind) ∷ lowByte (r .number) ∷ z) ≡ map lowByte (bytesOf r)
+      at (yes q) y x = rw q
+      at (no p) (yes q) x = rw q
+      at (no p) (no p′) (yes q) = rw q
+      at (no p) (no p′) (no p″) =
+          simp (
+            ne-eqb (r .kind) headerKind p,
+            ne-eqb (r .kind) machineKind p′,
+            ne-eqb (r .kind) leafKind p″,
+            ne-eqb (r .kind) stepKind a,
+            ne-eqb (r .kind) joinKind b,
+            ne-eqb (r .kind) hideKind c,
+            ne-eqb (r .kind) renameKind d,
+            ne-eqb (r .kind) endKind e,
+          )
+          (ap (λ (n : ℕ). take n (lowByte (r .kind) ∷ lowByte (r .number) ∷ z)) small)
+        where
+          small : sizeOf (r .kind) ≡ 1
+          small = other-size (r .kind) p p′ a p″ b c d e
+
+-- a rename: sixteen targets behind the kind and the operand
+pub bytes-rename : (r : Record) (z : List ℕ) → r .kind ≡ renameKind → length (r .targets) ≡ 16
+    → take (sizeOf (r .kind)) (paste (lowByte (r .kind) ∷ lowByte (r .left) ∷ z) 2 (map lowByte (r .targets)) 16)
+    ≡ map lowByte (bytesOf r)
+unfolding bytesOf sizeOf bodyLength
+bytes-rename r z q l =
+    let long : length (map lowByte (r .targets)) ≡ 16 = length-map (r .targets) lowByte ∙ l in
+    let all : take 16 (map lowByte (r .targets)) ≡ map lowByte (r .targets) =
+    take-all 16 (map lowByte (r .targets)) (omega arith) in
+    rw (q, all) (ap (λ (xs : List ℕ). 7 ∷ lowByte (r .left) ∷ xs)
+    (take-at (map lowByte (r .targets)) (drop 16 z) 16 long))
+
+-- what holds of a record of each kind holds of one that is handed in
+pub handed-any : (P : Record → Type 0) (used k : ℕ) (xs : List ℕ)
+    → ((x : ℕ) → P (headerRecord x)) → ((x : ℕ) → P (machineRecord x)) → ((x y z : ℕ) → P (stepRecord x y z))
+    → ((x : ℕ) → P (leafRecord x)) → ((x y z : ℕ) → P (joinRecord x y z)) → ((x y : ℕ) → P (hideRecord x y))
+    → ((x : ℕ) → P (renameRecord x (take 16 (drop 1 xs)))) → P (endRecord used) → P (otherRecord k)
+    → P (handedIn used k xs)
+unfolding handedIn
+handed-any P used k xs a b c d e f g h o =
+    either (eqb k headerKind) _ _ (a _) (either (eqb k machineKind) _ _ (b _) (either (eqb k stepKind) _ _ (c _ _ _)
+    (either (eqb k leafKind) _ _ (d _) (either (eqb k joinKind) _ _ (e _ _ _) (either (eqb k hideKind) _ _ (f _ _)
+    (either (eqb k renameKind) _ _ (g _) (either (eqb k endKind) _ _ h o)))))))
+  where
+    either : (t : Bool) (x y : Record) → P x → P y → P (cond t x y)
+    either true x y p q = p
+    either false x y p q = q
+
+pub handed-targets : (used k : ℕ) (xs : List ℕ) → length (handedIn used k xs .targets) ≤ 16
+unfolding noTargets
+handed-targets used k xs =
+    handed-any (λ r. length (r .targets) ≤ 16) used k xs (λ x. omega arith) (λ x. omega arith) (λ x y z. omega arith)
+    (λ x. omega arith) (λ x y z. omega arith) (λ x y. omega arith) (λ x. simp length-take (omega arith)) (omega arith)
+    (omega arith)
+
+pub handed-kind : (used k : ℕ) (xs : List ℕ) → handedIn used k xs .kind ≡ k
+unfolding handedIn
+handed-kind used k xs =
+    pick headerKind _ _ sym (pick machineKind _ _ sym (pick stepKind _ _ sym (pick leafKind _ _ sym
+    (pick joinKind _ _ sym (pick hideKind _ _ sym (pick renameKind _ _ sym (pick endKind _ _ sym refl)))))))
+  where
+    pick : (x : ℕ) (p q : Record) → (k ≡ x → p .kind ≡ k) → q .kind ≡ k → cond (eqb k x) p q .kind ≡ k
+    pick x p q f e = at (eqb k x) refl
+      where
+        at : (t : Bool) → eqb k x ≡ t → cond t p q .kind ≡ k
+        at true z = f (eqb-true k x z)
+        at false z = e
+
+-- the numbers of a record that is no step, join, hide or rename
+pub numbers-other : (r : Record) → (r .kind ≡ stepKind → ⊥) → (r .kind ≡ joinKind → ⊥) → (r .kind ≡ hideKind → ⊥)
+    → (r .kind ≡ renameKind → ⊥) → numbersOf r ≡ r .number ∷ 0 ∷ 0 ∷ replicate 14 0
+unfolding numbersOf
+numbers-other r a b c d =
+    simp (
+      ne-eqb (r .kind) stepKind a,
+      ne-eqb (r .kind) joinKind b,
+      ne-eqb (r .kind) hideKind c,
+      ne-eqb
+          (r .kind) renameKind d,
+    )

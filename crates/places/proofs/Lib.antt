@@ -1,0 +1,7 @@
+pub mod Seeking
+pub mod Counting
+pub mod Found
+pub mod Wholeness
+pub mod Bounding
+pub mod Multiplying
+pub mod Unique
