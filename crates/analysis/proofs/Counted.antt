@@ -9,7 +9,7 @@ use lib.ListN.{length}
 use Rattle.records.specs.declared.Record.{Record}
 use Rattle.progress.specs.declared.Progress.{Progress}
 use Rattle.records.specs.Kinds.{isNode}
-use Rattle.records.specs.Bytes.{firstRecord}
+use Rattle.decoding.specs.Bytes.{firstRecord}
 use Rattle.progress.specs.Progress.{start, takeRecord}
 use Rattle.tests.specs.FirstHit.{refusal}
 use Rattle.reader.specs.declared.Scan.{Scan}

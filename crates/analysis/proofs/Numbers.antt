@@ -10,7 +10,7 @@ use Rattle.tests.specs.declared.Refusal.{Refusal}
 use Rattle.records.specs.declared.Record.{Record}
 use Rattle.progress.specs.declared.Progress.{Progress}
 use Rattle.records.specs.Kinds.{sizeOf, endKind, is}
-use Rattle.records.specs.Bytes.{firstRecord}
+use Rattle.decoding.specs.Bytes.{firstRecord}
 use Rattle.progress.specs.Progress.{start, takeRecord}
 use Rattle.ranges.specs.Ranges.{outOfRange}
 use Rattle.tests.specs.Tests.{badKind, cutShort, misplaced, tooMany, badOperand, notAbove, ninthEvent, badEnd}

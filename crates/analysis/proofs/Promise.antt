@@ -20,7 +20,7 @@ use Rattle.network.proofs.Nodes.{networks-length, nodes-formed}
 use Rattle.network.proofs.Stops.{Quiet, gives-12, gives-flag, gives-11, PassOver, all-quiet, stopped-at}
 use Rattle.network.proofs.Stops.{pass-over, gives-no-pass}
 use Rattle.network.proofs.Verdict.{pass-exactly, twelve-never, pass-bounds-silence}
-use Rattle.records.specs.Bytes.{AreBytes}
+use Rattle.decoding.specs.Bytes.{AreBytes}
 use Rattle.reader.specs.Scan.{readable, says}
 use Rattle.reader.specs.File.{fileModel}
 use Rattle.reader.proofs.Formed.{model-formed}

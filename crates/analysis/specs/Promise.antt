@@ -11,7 +11,7 @@ use Rattle.network.specs.Model.{nodeNetwork, root, bound}
 use Rattle.network.specs.Lists.{IsListOf}
 use Rattle.network.specs.Verdict.{Verdict, pass, inconclusive, refused, mostPairs}
 use Rattle.network.specs.Promise.{NodePasses}
-use Rattle.records.specs.Bytes.{AreBytes}
+use Rattle.decoding.specs.Bytes.{AreBytes}
 use Rattle.reader.specs.Scan.{readable, says}
 use Rattle.reader.specs.File.{fileModel}
 use Rattle.filling.specs.Building.{zeros}

@@ -6,6 +6,7 @@ ghost use Rattle.reader.specs.File.{fileModel};
 ghost use Rattle.filling.specs.Building.{zeros};
 ghost use Rattle.analysis.specs.Analysis.{analysisOf, areaAfter, passOf, sectionsAfter};
 use reader::Reading;
+use tests::Refusal;
 use verdict::Answer;
 
 // Zeros over the whole part.
@@ -27,7 +28,10 @@ fn pass_over(bytes: &[u8], nodes: u32, area: &mut [u32]) -> Answer
 {
     let need = 256 * nodes as usize;
     if area.len() < need {
-        return verdict::refused_at(13, 0);
+        return Answer::Refused(Refusal {
+            number: 13,
+            place: 0,
+        });
     }
     let header = places::record_at(bytes, 0);
     let v = verdict::sweep(bytes, header.number, nodes, area);

@@ -8,8 +8,8 @@ fn number(b: &[u8], k: usize) -> u32
     requires { ⌜ k < 19 ⌝ }
 {
     let i = k * 4;
-    let low = records::byte_at(b, i) + 256 * records::byte_at(b, i + 1);
-    low + 65536 * (records::byte_at(b, i + 2) + 256 * records::byte_at(b, i + 3))
+    let low = decoding::byte_at(b, i) + 256 * decoding::byte_at(b, i + 1);
+    low + 65536 * (decoding::byte_at(b, i + 2) + 256 * decoding::byte_at(b, i + 3))
 }
 
 // The seventeen numbers behind the used length and the kind.
@@ -42,7 +42,7 @@ fn print_bytes(b: &[u8]) {
     io::write_all(1, b" ");
     let mut i = 0;
     while i < b.len() {
-        io::print_hex(1, records::byte_at(b, i) as u64, 2);
+        io::print_hex(1, decoding::byte_at(b, i) as u64, 2);
         i += 1;
     }
     io::write_all(1, b"\n");

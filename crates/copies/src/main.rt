@@ -12,7 +12,7 @@ fn rebuild(file: &[u8], buffer: &mut [u8]) -> usize
     let mut used = 0;
     let mut at = 0;
     while at < file.len() {
-        let r = records::first_record(&file[at..]);
+        let r = decoding::first_record(&file[at..]);
         let w = writer::append(buffer, used, r.kind, handing::numbers_of(r));
         match w {
             Written::Appended(end) => {

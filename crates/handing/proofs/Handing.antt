@@ -15,7 +15,7 @@ use Rattle.records.specs.Kinds.{sizeOf, bodyLength, headerKind, machineKind, st
 use Rattle.records.specs.Kinds.{renameKind, endKind}
 use Rattle.records.specs.Records.{headerRecord, machineRecord, stepRecord, leafRecord, joinRecord, hideRecord}
 use Rattle.records.specs.Records.{renameRecord, endRecord, otherRecord, noTargets}
-use Rattle.records.specs.Bytes.{bytesOf}
+use Rattle.decoding.specs.Bytes.{bytesOf}
 use Rattle.records.proofs.Sizes.{each-kind, size-beyond}
 use Rattle.handing.specs.Handing.{lowByte, handedIn}
 use Rattle.handing.specs.Handing.{numbersOf}

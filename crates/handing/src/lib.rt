@@ -5,7 +5,7 @@ ghost use Prim.Native.Nat.{_<_, _%_, _^_};
 ghost use lib.ListN.{length, take, drop, replicate};
 ghost use lib.Seq.{paste};
 ghost use Rattle.records.specs.Kinds.{sizeOf};
-ghost use Rattle.records.specs.Bytes.{bytesOf};
+ghost use Rattle.decoding.specs.Bytes.{bytesOf};
 ghost use Rattle.handing.specs.Handing.{numbersOf};
 ghost use Rattle.handing.specs.Handing.{lowByte, handedIn};
 use records::Record;

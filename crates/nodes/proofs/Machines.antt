@@ -12,8 +12,8 @@ use Rattle.network.specs.Model.{idle}
 use Rattle.network.proofs.Nodes.{getD-member}
 use Rattle.records.specs.Kinds.{bodyLength, sizeOf, stepKind, is}
 use Rattle.records.specs.Records.{stepRecord}
-use Rattle.records.specs.Bytes.{AreBytes, recordOf, firstRecord}
-use Rattle.records.proofs.Bytes.{first-kind}
+use Rattle.decoding.specs.Bytes.{AreBytes, recordOf, firstRecord}
+use Rattle.decoding.proofs.Bytes.{first-kind}
 use Rattle.records.proofs.Choices.{cond-false}
 use Rattle.records.proofs.Sizes.{size-positive}
 use Rattle.reader.specs.Scan.{readable, says}

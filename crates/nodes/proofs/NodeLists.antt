@@ -20,7 +20,7 @@ use Rattle.network.specs.Lists.{joinCandidates, hideCandidate, renameCandidate,
 use Rattle.network.specs.Verdict.{mostPairs}
 use Rattle.records.specs.declared.Record.{Record}
 use Rattle.records.specs.Kinds.{leafKind, joinKind, hideKind, renameKind, is}
-use Rattle.records.specs.Bytes.{AreBytes}
+use Rattle.decoding.specs.Bytes.{AreBytes}
 use Rattle.records.proofs.Choices.{true-not-false}
 use Rattle.reader.specs.Scan.{readable, says}
 use Rattle.reader.specs.File.{fileModel}

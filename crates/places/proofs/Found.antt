@@ -14,7 +14,7 @@ use Rattle.network.specs.Machine.{Machine}
 use Rattle.network.specs.Model.{Node, leafNode, idle}
 use Rattle.records.specs.declared.Record.{Record}
 use Rattle.records.specs.Kinds.{bodyLength, sizeOf, machineKind, is, isNode}
-use Rattle.records.specs.Bytes.{firstRecord}
+use Rattle.decoding.specs.Bytes.{firstRecord}
 use Rattle.records.proofs.Choices.{cond-true, cond-false}
 use Rattle.records.proofs.Sizes.{size-positive}
 use Rattle.reader.specs.File.{recordsFrom, recordsOf, stepsOf, machinesOf, nodeOf, nodesOf, modelOf, fileModel}

@@ -10,7 +10,7 @@ use lib.ListN.{length, drop, length-drop, drop-of-length-le}
 use lib.Seq.{drop-drop}
 use Rattle.records.specs.declared.Record.{Record}
 use Rattle.records.specs.Kinds.{sizeOf}
-use Rattle.records.specs.Bytes.{firstRecord}
+use Rattle.decoding.specs.Bytes.{firstRecord}
 use Rattle.records.proofs.Sizes.{size-positive, size-most}
 use Rattle.reader.specs.File.{recordsFrom, recordsOf}
 use Rattle.places.specs.Finding.{placeIn}

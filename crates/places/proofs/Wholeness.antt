@@ -11,7 +11,7 @@ use borrow.Author.Tests.{eqb-true, ne-eqb}
 use Rattle.records.specs.declared.Record.{Record}
 use Rattle.progress.specs.declared.Progress.{Progress}
 use Rattle.records.specs.Kinds.{bodyLength, sizeOf, machineKind, endKind, is}
-use Rattle.records.specs.Bytes.{firstRecord}
+use Rattle.decoding.specs.Bytes.{firstRecord}
 use Rattle.progress.specs.Progress.{start, takeRecord}
 use Rattle.records.proofs.Sizes.{size-positive}
 use Rattle.records.proofs.Choices.{cond-true, cond-false}

@@ -7,7 +7,7 @@ use lib.Dec.{eqb}
 use lib.ListN.{length, drop}
 use Rattle.records.specs.declared.Record.{Record}
 use Rattle.records.specs.Kinds.{machineKind, leafKind, sizeOf, is, isNode}
-use Rattle.records.specs.Bytes.{firstRecord}
+use Rattle.decoding.specs.Bytes.{firstRecord}
 use Rattle.reader.specs.File.{recordsOf, stepsOf}
 
 -- where, among some records, number k of those that p picks begins, counted from 0; behind them all where there is none

@@ -9,9 +9,9 @@ use lib.ListN.{length, take, drop, take-append-drop, drop-of-length-le}
 use lib.Seq.{getD-drop}
 use Rattle.progress.specs.declared.Progress.{Progress}
 use Rattle.records.specs.Kinds.{bodyLength, sizeOf, endKind}
-use Rattle.records.specs.Bytes.{AreBytes, firstRecord, bytesOf}
+use Rattle.decoding.specs.Bytes.{AreBytes, firstRecord, bytesOf}
 use Rattle.progress.specs.Progress.{start, takeRecord}
-use Rattle.records.proofs.Bytes.{first-bytes}
+use Rattle.decoding.proofs.Bytes.{first-bytes}
 use Rattle.tests.proofs.Meeting.{kind-range}
 use Rattle.tests.proofs.Passing.{Passed}
 use Rattle.reader.specs.declared.Scan.the-variants.{Finished}

@@ -5,7 +5,7 @@ use mathlib.Core.List.{map}
 use Rattle.events.specs.Sets.{has, setOf, count}
 use Rattle.records.specs.Kinds.{bodyLength, sizeOf}
 use Rattle.records.specs.Records.{noTargets}
-use Rattle.records.specs.Bytes.{targetsIn, recordOf, firstRecord}
+use Rattle.decoding.specs.Bytes.{targetsIn, recordOf, firstRecord}
 use Rattle.progress.specs.Progress.{start, usedWith, takeRecord}
 use Rattle.ranges.specs.Ranges.{wrongTargets}
 use Rattle.tests.specs.FirstHit.{firstHit}

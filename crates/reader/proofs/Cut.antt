@@ -13,12 +13,12 @@ use borrow.Author.Tests.{lt-ltb, le-ltb, ltb-true, ltb-false, ne-eqb}
 use Rattle.records.specs.declared.Record.{Record}
 use Rattle.progress.specs.declared.Progress.{Progress}
 use Rattle.records.specs.Kinds.{bodyLength, sizeOf, endKind}
-use Rattle.records.specs.Bytes.{firstRecord}
+use Rattle.decoding.specs.Bytes.{firstRecord}
 use Rattle.progress.specs.Progress.{start, takeRecord}
 use Rattle.tests.specs.Tests.{badKind, cutShort}
 use Rattle.tests.specs.FirstHit.{firstHit, refusal}
 use Rattle.records.proofs.Sizes.{size-positive}
-use Rattle.records.proofs.Bytes.{same-first, cut-kind}
+use Rattle.decoding.proofs.Bytes.{same-first, cut-kind}
 use Rattle.tests.proofs.Passing.{Passed, hit-cut, pass-with}
 use Rattle.reader.specs.declared.Scan.{Scan}
 use Rattle.reader.specs.declared.Scan.the-variants.{Stopped, Finished, Refused}

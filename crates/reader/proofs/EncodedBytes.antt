@@ -10,10 +10,10 @@ use lib.Pow.{pow-mono}
 use Rattle.network.specs.Machine.{Step, step, Machine, MachineFormed, StepFormed}
 use Rattle.network.specs.Network.{TargetsBelow}
 use Rattle.network.specs.Model.{Node, leafNode, joinNode, hideNode, renameNode, NodeFormed}
-use Rattle.records.specs.Bytes.{byte, AreBytes, twoBytes, bytesOf}
+use Rattle.decoding.specs.Bytes.{byte, AreBytes, twoBytes, bytesOf}
 use Rattle.records.specs.Records.{machineRecord}
-use Rattle.records.proofs.Decodes.{Decodes, decodes-machine, decodes-step, decodes-leaf, decodes-join, decodes-hide}
-use Rattle.records.proofs.Decodes.{decodes-rename}
+use Rattle.decoding.proofs.Decodes.{Decodes, decodes-machine, decodes-step, decodes-leaf, decodes-join, decodes-hide}
+use Rattle.decoding.proofs.Decodes.{decodes-rename}
 use Rattle.reader.specs.Encoding.{codeOf, recordOfStep, recordsOfMachine, recordOfNode, bytesOfAll}
 use Rattle.reader.specs.Encoding.{TargetsFilled}
 use Rattle.reader.proofs.OneEncoding.{bytes-append}

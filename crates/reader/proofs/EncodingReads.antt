@@ -17,13 +17,13 @@ use Rattle.network.specs.Model.{leafMachines}
 use Rattle.records.specs.declared.Record.{Record}
 use Rattle.progress.specs.declared.Progress.{Progress}
 use Rattle.records.specs.Kinds.{sizeOf}
-use Rattle.records.specs.Bytes.{AreBytes, bytesOf}
+use Rattle.decoding.specs.Bytes.{AreBytes, bytesOf}
 use Rattle.records.specs.Records.{headerRecord, endRecord}
 use Rattle.progress.specs.Progress.{start}
 use Rattle.tests.specs.FirstHit.{firstHit}
 use Rattle.tests.proofs.MayStand.{header-met, end-met}
 use Rattle.tests.proofs.Passes.{met-in}
-use Rattle.records.proofs.Decodes.{decodes-header, decodes-end}
+use Rattle.decoding.proofs.Decodes.{decodes-header, decodes-end}
 use Rattle.reader.specs.declared.Scan.the-variants.{Finished}
 use Rattle.reader.specs.Scan.{scanFrom, scanOf, readable, says}
 use Rattle.reader.specs.File.{recordsFrom, recordsOf, modelOf, fileModel}

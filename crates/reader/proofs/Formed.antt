@@ -15,7 +15,7 @@ use Rattle.network.specs.Model.{ownMachine, leafMachines, WellFormed}
 use Rattle.network.specs.Limits.{WithinLimits}
 use Rattle.records.specs.declared.Record.{Record}
 use Rattle.records.specs.Kinds.{sizeOf, stepKind, machineKind, is}
-use Rattle.records.specs.Bytes.{AreBytes}
+use Rattle.decoding.specs.Bytes.{AreBytes}
 use Rattle.records.specs.Records.{headerRecord, endRecord}
 use Rattle.progress.specs.Progress.{start}
 use Rattle.events.proofs.Booleans.{yes-true}

@@ -14,7 +14,7 @@ use Rattle.progress.specs.Progress.{takeRecord}
 use Rattle.tests.specs.FirstHit.{firstHit}
 use Rattle.tests.proofs.Passing.{passed-out}
 use Rattle.tests.proofs.Meeting.{leaf-out, join-out, hide-out, rename-out}
-use Rattle.records.proofs.Shapes.{Plain}
+use Rattle.decoding.proofs.Shapes.{Plain}
 use Rattle.reader.specs.Encoding.{recordOfNode, TargetsFilled}
 use Rattle.reader.proofs.Passes.{Passes}
 use Rattle.reader.proofs.Plain.{AllPlain}

@@ -9,14 +9,14 @@ use lib.ListN.{length, length-append}
 use Rattle.records.specs.declared.Record.{Record}
 use Rattle.progress.specs.declared.Progress.{Progress}
 use Rattle.records.specs.Kinds.{sizeOf}
-use Rattle.records.specs.Bytes.{AreBytes, bytesOf}
+use Rattle.decoding.specs.Bytes.{AreBytes, bytesOf}
 use Rattle.records.specs.Records.{headerRecord, endRecord}
 use Rattle.progress.specs.Progress.{start, takeRecord}
 use Rattle.tests.proofs.Passing.{passed-out}
 use Rattle.tests.proofs.MayStand.{Met, HeaderMet, header-met, machine-met, step-met, leaf-met, join-met, hide-met}
 use Rattle.tests.proofs.MayStand.{rename-met, end-met}
 use Rattle.tests.proofs.Meeting.{met-out}
-use Rattle.records.proofs.Shapes.{header-is}
+use Rattle.decoding.proofs.Shapes.{header-is}
 use Rattle.reader.specs.Scan.{scanOf, readable, says}
 use Rattle.reader.specs.File.{recordsFrom, recordsOf, machinesOf, nodesOf, eventCount, modelOf}
 use Rattle.reader.specs.File.{fileModel}

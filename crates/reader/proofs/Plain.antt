@@ -11,9 +11,9 @@ use lib.ListN.{length, length-drop}
 use Rattle.records.specs.declared.Record.{Record}
 use Rattle.progress.specs.declared.Progress.{Progress}
 use Rattle.records.specs.Kinds.{bodyLength, sizeOf}
-use Rattle.records.specs.Bytes.{AreBytes, firstRecord}
+use Rattle.decoding.specs.Bytes.{AreBytes, firstRecord}
 use Rattle.progress.specs.Progress.{takeRecord}
-use Rattle.records.proofs.Shapes.{Plain, first-plain}
+use Rattle.decoding.proofs.Shapes.{Plain, first-plain}
 use Rattle.reader.specs.declared.Scan.the-variants.{Finished}
 use Rattle.reader.specs.Scan.{scanFrom}
 use Rattle.reader.specs.File.{recordsFrom}

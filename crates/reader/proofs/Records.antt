@@ -12,7 +12,7 @@ use borrow.Author.Tests.{ltb-false, eqb-true, eq-eqb, ne-eqb, le-ltb, not-false}
 use Rattle.records.specs.declared.Record.{Record}
 use Rattle.progress.specs.declared.Progress.{Progress}
 use Rattle.records.specs.Kinds.{bodyLength, sizeOf, endKind}
-use Rattle.records.specs.Bytes.{firstRecord}
+use Rattle.decoding.specs.Bytes.{firstRecord}
 use Rattle.progress.specs.Progress.{takeRecord}
 use Rattle.tests.specs.Tests.{badEnd, unusedNode}
 use Rattle.tests.specs.FirstHit.{firstHit}

@@ -11,11 +11,11 @@ use borrow.Author.Tests.{le-ltb, ne-eqb}
 use Rattle.records.specs.declared.Record.{Record}
 use Rattle.progress.specs.declared.Progress.{Progress}
 use Rattle.records.specs.Kinds.{sizeOf, endKind}
-use Rattle.records.specs.Bytes.{firstRecord, bytesOf}
+use Rattle.decoding.specs.Bytes.{firstRecord, bytesOf}
 use Rattle.progress.specs.Progress.{takeRecord}
 use Rattle.tests.specs.FirstHit.{firstHit}
 use Rattle.records.proofs.Sizes.{size-positive}
-use Rattle.records.proofs.Decodes.{Decodes}
+use Rattle.decoding.proofs.Decodes.{Decodes}
 use Rattle.tests.proofs.Passing.{passed-out, pass-with}
 use Rattle.reader.specs.declared.Scan.the-variants.{Finished}
 use Rattle.reader.specs.Scan.{scanFrom}

@@ -11,7 +11,7 @@ use borrow.Author.Tests.{ltb-false}
 use Rattle.records.specs.declared.Record.{Record}
 use Rattle.progress.specs.declared.Progress.{Progress}
 use Rattle.records.specs.Kinds.{endKind, sizeOf}
-use Rattle.records.specs.Bytes.{firstRecord}
+use Rattle.decoding.specs.Bytes.{firstRecord}
 use Rattle.progress.specs.Progress.{start, takeRecord, Within}
 use Rattle.tests.specs.FirstHit.{firstHit, refusal}
 use Rattle.records.proofs.Sizes.{size-positive}

@@ -8,7 +8,7 @@ use lib.ListN.{length, length-append}
 use Rattle.network.specs.Machine.{Step, step, Machine}
 use Rattle.network.specs.Model.{Node, leafNode, joinNode, hideNode, renameNode, Model, ownMachine, leafMachines}
 use Rattle.network.specs.Limits.{stepTotal}
-use Rattle.records.specs.Bytes.{AreBytes, bytesOf}
+use Rattle.decoding.specs.Bytes.{AreBytes, bytesOf}
 use Rattle.records.specs.Records.{endRecord}
 use Rattle.reader.specs.Scan.{readable, says}
 use Rattle.reader.specs.File.{fileModel}

@@ -10,9 +10,9 @@ use lib.ListN.{length, drop, length-drop, length-append}
 use lib.Seq.{getD-append-add, getD-drop}
 use Rattle.progress.specs.declared.Progress.{Progress}
 use Rattle.records.specs.Kinds.{bodyLength, sizeOf, endKind}
-use Rattle.records.specs.Bytes.{byte, two, recordOf, firstRecord}
+use Rattle.decoding.specs.Bytes.{byte, two, recordOf, firstRecord}
 use Rattle.progress.specs.Progress.{start, takeRecord}
-use Rattle.records.proofs.Bytes.{first-kind}
+use Rattle.decoding.proofs.Bytes.{first-kind}
 use Rattle.reader.specs.declared.Scan.the-variants.{Finished}
 use Rattle.reader.specs.Scan.{scanFrom, scanOf, readable, refused, says}
 use Rattle.reader.proofs.Turns.{rest, Then, Turn, turn-out, turn-passed, turn-whole, none-finished}

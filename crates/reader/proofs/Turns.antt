@@ -12,7 +12,7 @@ use borrow.Author.Tests.{eqb-true, eqb-false, eq-eqb, ne-eqb, ltb-false}
 use Rattle.progress.specs.declared.Progress.{Progress}
 use Rattle.tests.specs.declared.Refusal.{Refusal}
 use Rattle.records.specs.Kinds.{endKind, sizeOf, is}
-use Rattle.records.specs.Bytes.{firstRecord}
+use Rattle.decoding.specs.Bytes.{firstRecord}
 use Rattle.progress.specs.Progress.{takeRecord}
 use Rattle.tests.specs.FirstHit.{firstHit, refusal}
 use Rattle.tests.proofs.Passing.{Passed, passed-out}

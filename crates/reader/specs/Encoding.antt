@@ -12,7 +12,7 @@ use Rattle.records.specs.declared.Record.{Record}
 use Rattle.records.specs.Kinds.{silentLabel}
 use Rattle.records.specs.Records.{headerRecord, machineRecord, stepRecord, leafRecord, joinRecord, hideRecord}
 use Rattle.records.specs.Records.{renameRecord, endRecord}
-use Rattle.records.specs.Bytes.{bytesOf}
+use Rattle.decoding.specs.Bytes.{bytesOf}
 
 -- the byte of a label
 unfoldable pub codeOf : Label → ℕ

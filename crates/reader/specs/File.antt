@@ -9,7 +9,7 @@ use Rattle.network.specs.Machine.{Label, silent, event, Step, step, Machine}
 use Rattle.network.specs.Model.{Node, leafNode, joinNode, hideNode, renameNode, Model}
 use Rattle.records.specs.declared.Record.{Record}
 use Rattle.records.specs.Kinds.{machineKind, stepKind, leafKind, joinKind, hideKind, silentLabel, sizeOf, is, isNode}
-use Rattle.records.specs.Bytes.{firstRecord}
+use Rattle.decoding.specs.Bytes.{firstRecord}
 
 -- the records that stand in the bytes b, at most `fuel` of them
 unfoldable pub recordsFrom : ℕ → List ℕ → List Record

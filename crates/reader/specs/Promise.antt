@@ -9,7 +9,7 @@ use lib.ListN.{length, take}
 use Rattle.network.specs.Model.{Model}
 use Rattle.records.specs.declared.Record.{Record}
 use Rattle.records.specs.Kinds.{sizeOf}
-use Rattle.records.specs.Bytes.{AreBytes}
+use Rattle.decoding.specs.Bytes.{AreBytes}
 use Rattle.reader.specs.Scan.{readable, refused, says}
 use Rattle.reader.specs.File.{recordsOf, fileModel}
 use Rattle.reader.specs.Encoding.{encode, Encodable}

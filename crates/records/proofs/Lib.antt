@@ -1,7 +1,3 @@
 pub mod Choices
 pub mod Sizes
-pub mod Decoding
-pub mod Bytes
-pub mod Decodes
-pub mod Shapes
 pub mod Unique

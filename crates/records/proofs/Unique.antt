@@ -9,7 +9,6 @@ use Rattle.records.specs.declared.Record.{Record}
 use Rattle.records.specs.Kinds.{sizeOf, isNode, hasOperand}
 use Rattle.records.specs.Records.{otherRecord, headerRecord, machineRecord, stepRecord, leafRecord, joinRecord}
 use Rattle.records.specs.Records.{hideRecord, renameRecord, endRecord}
-use Rattle.records.specs.Bytes.{byte, two, targetsIn, recordOf, firstRecord}
 use Rattle.records.specs.Records.{keyOf}
 
 pub other-unique : (k : ℕ) (x x′ : Record) → x ≡ otherRecord k → x′ ≡ otherRecord k → x ≡ x′
@@ -50,18 +49,3 @@ key-unique r x x′ p q = settled p q
 
 pub size-of-unique : (k : ℕ) (x x′ : ℕ) → x ≡ sizeOf k → x′ ≡ sizeOf k → x ≡ x′
 size-of-unique k x x′ p q = settled p q
-
-pub byte-at-unique : (b : List ℕ) (i : ℕ) (x x′ : ℕ) → x ≡ byte b i → x′ ≡ byte b i → x ≡ x′
-byte-at-unique b i x x′ p q = settled p q
-
-pub two-of-unique : (low high : ℕ) (x x′ : ℕ) → x ≡ two low high → x′ ≡ two low high → x ≡ x′
-two-of-unique low high x x′ p q = settled p q
-
-pub targets-in-unique : (b : List ℕ) (x x′ : List ℕ) → x ≡ targetsIn b → x′ ≡ targetsIn b → x ≡ x′
-targets-in-unique b x x′ p q = settled p q
-
-pub decode-unique : (b : List ℕ) (x x′ : Record) → x ≡ recordOf b → x′ ≡ recordOf b → x ≡ x′
-decode-unique b x x′ p q = settled p q
-
-pub first-record-unique : (b : List ℕ) (x x′ : Record) → x ≡ firstRecord b → x′ ≡ firstRecord b → x ≡ x′
-first-record-unique b x x′ p q = settled p q

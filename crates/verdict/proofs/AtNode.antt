@@ -13,7 +13,7 @@ use Rattle.network.specs.Lists.{listOf, flagOf}
 use Rattle.network.specs.Verdict.{mostPairs, operandEmpty}
 use Rattle.records.specs.declared.Record.{Record}
 use Rattle.records.specs.Kinds.{leafKind, joinKind, hideKind, is}
-use Rattle.records.specs.Bytes.{AreBytes}
+use Rattle.decoding.specs.Bytes.{AreBytes}
 use Rattle.reader.specs.Scan.{readable, says}
 use Rattle.reader.specs.File.{fileModel}
 use Rattle.places.specs.Finding.{nodePlace, recordAt}

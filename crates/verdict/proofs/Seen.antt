@@ -20,7 +20,7 @@ use Rattle.network.specs.Verdict.{hasEmptyFirst, operandEmpty}
 use Rattle.network.proofs.Nodes.{getD-member, node-network}
 use Rattle.records.specs.declared.Record.{Record}
 use Rattle.records.specs.Kinds.{leafKind, joinKind, hideKind, renameKind, is, isNode}
-use Rattle.records.specs.Bytes.{AreBytes}
+use Rattle.decoding.specs.Bytes.{AreBytes}
 use Rattle.records.proofs.Choices.{true-not-false}
 use Rattle.reader.specs.Scan.{readable, says}
 use Rattle.reader.specs.File.{nodeOf, fileModel}

@@ -11,7 +11,7 @@ use Rattle.network.specs.Lists.{listOf, flagOf}
 use Rattle.network.specs.Verdict.{mostPairs, operandEmpty, verdict}
 use Rattle.network.proofs.Nodes.{networks-length}
 use Rattle.records.specs.declared.Record.{Record}
-use Rattle.records.specs.Bytes.{AreBytes}
+use Rattle.decoding.specs.Bytes.{AreBytes}
 use Rattle.tests.specs.FirstHit.{refusal}
 use Rattle.reader.specs.Scan.{readable, says}
 use Rattle.reader.specs.File.{fileModel}

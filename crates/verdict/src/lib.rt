@@ -29,7 +29,7 @@ pub enum Answer {
 }
 
 // The refusal that node k gives.
-pub fn refused_at(number: u32, k: u32) -> Answer
+fn refused_at(number: u32, k: u32) -> Answer
     ensures { λ r. ⌜ r ≡ Answer.Refused (refusal number k) ⌝ }
 {
     Answer::Refused(Refusal {

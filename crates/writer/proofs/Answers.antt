@@ -12,7 +12,7 @@ use Rattle.records.specs.declared.Record.{Record}
 use Rattle.progress.specs.declared.Progress.{Progress}
 use Rattle.tests.specs.declared.Refusal.{Refusal}
 use Rattle.records.specs.Kinds.{sizeOf}
-use Rattle.records.specs.Bytes.{bytesOf}
+use Rattle.decoding.specs.Bytes.{bytesOf}
 use Rattle.tests.specs.FirstHit.{firstHit, refusal}
 use Rattle.reader.specs.declared.Scan.{Scan}
 use Rattle.reader.specs.declared.Scan.the-variants.{Stopped, Finished, Refused}

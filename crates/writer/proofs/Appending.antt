@@ -10,10 +10,10 @@ use lib.Seq.{take-at, drop-append-add}
 use Rattle.records.specs.declared.Record.{Record}
 use Rattle.progress.specs.declared.Progress.{Progress}
 use Rattle.records.specs.Kinds.{endKind, sizeOf, bodyLength}
-use Rattle.records.specs.Bytes.{firstRecord, bytesOf}
+use Rattle.decoding.specs.Bytes.{firstRecord, bytesOf}
 use Rattle.progress.specs.Progress.{start, takeRecord}
 use Rattle.tests.specs.FirstHit.{firstHit}
-use Rattle.records.proofs.Decodes.{Decodes}
+use Rattle.decoding.proofs.Decodes.{Decodes}
 use Rattle.records.proofs.Sizes.{size-positive}
 use Rattle.reader.specs.declared.Scan.the-variants.{Stopped, Finished}
 use Rattle.reader.specs.Scan.{scanFrom, scanOf}

@@ -13,7 +13,7 @@ use borrow.Author.Tests.{ltb-true, ltb-false}
 use Rattle.records.specs.declared.Record.{Record}
 use Rattle.progress.specs.declared.Progress.{Progress}
 use Rattle.records.specs.Kinds.{endKind, sizeOf}
-use Rattle.records.specs.Bytes.{firstRecord}
+use Rattle.decoding.specs.Bytes.{firstRecord}
 use Rattle.progress.specs.Progress.{start, takeRecord}
 use Rattle.tests.specs.FirstHit.{refusal}
 use Rattle.records.proofs.Sizes.{size-positive}

@@ -6,7 +6,7 @@ use Prim.Native.Nat.{ℕ}
 use Rattle.events.specs.Sets.{has, setOf, count}
 use Rattle.records.specs.Kinds.{sizeOf, bodyLength}
 use Rattle.records.specs.Records.{noTargets, machineRecord}
-use Rattle.records.specs.Bytes.{recordOf, firstRecord, bytesOf, targetsIn}
+use Rattle.decoding.specs.Bytes.{recordOf, firstRecord, bytesOf, targetsIn}
 use Rattle.progress.specs.Progress.{start, usedWith, takeRecord}
 use Rattle.ranges.specs.Ranges.{wrongTargets}
 use Rattle.tests.specs.FirstHit.{firstHit}

@@ -13,11 +13,11 @@ use borrow.Author.Tests.{eqb-true, eqb-false, ne-eqb, le-ltb, ltb-false}
 use Rattle.records.specs.declared.Record.{Record}
 use Rattle.progress.specs.declared.Progress.{Progress}
 use Rattle.records.specs.Kinds.{endKind, sizeOf, is}
-use Rattle.records.specs.Bytes.{firstRecord}
+use Rattle.decoding.specs.Bytes.{firstRecord}
 use Rattle.progress.specs.Progress.{takeRecord}
 use Rattle.tests.specs.FirstHit.{firstHit, refusal}
 use Rattle.records.proofs.Sizes.{size-positive}
-use Rattle.records.proofs.Bytes.{same-first}
+use Rattle.decoding.proofs.Bytes.{same-first}
 use Rattle.tests.proofs.Passing.{Passed, passed-out, pass-with}
 use Rattle.reader.specs.declared.Scan.{Scan}
 use Rattle.reader.specs.declared.Scan.the-variants.{Stopped, Finished, Refused}

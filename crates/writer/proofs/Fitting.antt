@@ -16,7 +16,7 @@ use Rattle.events.proofs.Tests.{included-iff}
 use Rattle.records.specs.declared.Record.{Record}
 use Rattle.progress.specs.declared.Progress.{Progress}
 use Rattle.records.specs.Kinds.{headerKind, machineKind, stepKind, endKind, sizeOf, bodyLength, is, isNode}
-use Rattle.records.specs.Bytes.{bytesOf}
+use Rattle.decoding.specs.Bytes.{bytesOf}
 use Rattle.progress.specs.Progress.{start, takeRecord}
 use Rattle.ranges.specs.Ranges.{wrongSet, wrongTarget, wrongTargets}
 use Rattle.records.proofs.Choices.{or-none}

@@ -11,17 +11,17 @@ use Rattle.records.specs.declared.Record.{Record}
 use Rattle.progress.specs.declared.Progress.{Progress}
 use Rattle.records.specs.Kinds.{sizeOf}
 use Rattle.records.specs.Records.{endRecord}
-use Rattle.records.specs.Bytes.{AreBytes, bytesOf}
+use Rattle.decoding.specs.Bytes.{AreBytes, bytesOf}
 use Rattle.progress.specs.Progress.{start, takeRecord}
 use Rattle.tests.specs.FirstHit.{firstHit}
-use Rattle.records.proofs.Decodes.{Decodes, decodes-header, decodes-machine, decodes-step, decodes-leaf}
-use Rattle.records.proofs.Decodes.{decodes-join, decodes-hide, decodes-rename, decodes-end}
+use Rattle.decoding.proofs.Decodes.{Decodes, decodes-header, decodes-machine, decodes-step, decodes-leaf}
+use Rattle.decoding.proofs.Decodes.{decodes-join, decodes-hide, decodes-rename, decodes-end}
 use Rattle.tests.proofs.Passing.{passed-out}
 use Rattle.tests.proofs.MayStand.{Met, header-met, machine-met, step-met, leaf-met, join-met, hide-met, rename-met}
 use Rattle.tests.proofs.MayStand.{end-met}
 use Rattle.tests.proofs.Meeting.{met-out}
-use Rattle.records.proofs.Shapes.{Plain, trimmed, header-is, machine-is, step-is, leaf-is, join-is, hide-is, rename-is}
-use Rattle.records.proofs.Shapes.{end-is}
+use Rattle.decoding.proofs.Shapes.{Plain, trimmed, header-is, machine-is, step-is, leaf-is, join-is, hide-is, rename-is}
+use Rattle.decoding.proofs.Shapes.{end-is}
 use Rattle.reader.specs.declared.Scan.the-variants.{Stopped}
 use Rattle.reader.specs.Scan.{scanFrom, scanOf, readable, says}
 use Rattle.reader.specs.File.{recordsOf, fileModel}

@@ -8,7 +8,7 @@ use lib.ListN.{length, take, drop}
 use lib.Seq.{paste, length-take-le}
 use Rattle.records.specs.declared.Record.{Record}
 use Rattle.records.specs.Kinds.{sizeOf}
-use Rattle.records.specs.Bytes.{bytesOf}
+use Rattle.decoding.specs.Bytes.{bytesOf}
 use Rattle.progress.specs.Progress.{start}
 use Rattle.tests.proofs.Passing.{passed-out}
 use Rattle.records.proofs.Sizes.{size-most}

@@ -15,12 +15,12 @@ use Rattle.records.specs.declared.Record.{Record}
 use Rattle.progress.specs.declared.Progress.{Progress}
 use Rattle.records.specs.Kinds.{endKind, sizeOf}
 use Rattle.records.specs.Records.{noTargets, otherRecord}
-use Rattle.records.specs.Bytes.{bytesOf}
+use Rattle.decoding.specs.Bytes.{bytesOf}
 use Rattle.progress.specs.Progress.{start, takeRecord}
 use Rattle.tests.specs.Tests.{badKind}
 use Rattle.tests.specs.FirstHit.{refusal}
-use Rattle.records.proofs.Decodes.{Decodes, decodes-header, decodes-machine, decodes-step, decodes-leaf}
-use Rattle.records.proofs.Decodes.{decodes-join, decodes-hide, decodes-rename, decodes-end}
+use Rattle.decoding.proofs.Decodes.{Decodes, decodes-header, decodes-machine, decodes-step, decodes-leaf}
+use Rattle.decoding.proofs.Decodes.{decodes-join, decodes-hide, decodes-rename, decodes-end}
 use Rattle.tests.proofs.Passing.{passed-out}
 use Rattle.records.proofs.Sizes.{each-kind, size-most}
 use Rattle.tests.proofs.Meeting.{kind-range}

@@ -9,7 +9,7 @@ use Rattle.network.specs.Model.{Model}
 use Rattle.records.specs.declared.Record.{Record}
 use Rattle.records.specs.Kinds.{endKind}
 use Rattle.records.specs.Records.{endRecord}
-use Rattle.records.specs.Bytes.{AreBytes, bytesOf}
+use Rattle.decoding.specs.Bytes.{AreBytes, bytesOf}
 use Rattle.tests.specs.FirstHit.{refusal}
 use Rattle.reader.specs.Scan.{readable, refused, says}
 use Rattle.reader.specs.File.{recordsOf, fileModel}

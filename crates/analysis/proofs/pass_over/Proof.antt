@@ -1,5 +1,5 @@
 use native.Mathlib.Omega.{arith}
-use mathlib.Core.Path.{sym, ap, _∙_}
+use mathlib.Core.Path.{refl, sym, ap, _∙_}
 use Prim.Native.Nat.{_*_}
 use lib.Seq.{length-take-le}
 use Rattle.records.specs.declared.Record.{Record}
@@ -15,14 +15,10 @@ use Rattle.analysis.proofs.pass_over.Tie as tie
 mul-need : tie.Need-mul-need
 mul-need c = search needs
 
-refused-at-requires : tie.Need-refused-at-requires
-refused-at-requires c κs = search needs
-
 returns : tie.Need-returns
-returns c = let g = c .before .before .before .before .args in
-    let need = need-is (fileModel (g .bytes .now)) (g .nodes) (c .before .before .before .before .pre .1) in
-    no-room (fileModel (g .bytes .now)) (g .area .now) (omega (arith, need, c .before .if1 .taken)) _
-    (c .refused-at .ensures)
+returns c = let g = c .before .before .before .args in
+    let need = need-is (fileModel (g .bytes .now)) (g .nodes) (c .before .before .before .pre .1) in
+    no-room (fileModel (g .bytes .now)) (g .area .now) (omega (arith, need, c .if1 .taken)) _ refl
 
 record-at-requires : tie.Need-record-at-requires
 record-at-requires c κs = search needs
@@ -135,7 +131,6 @@ pass-over-spec =
     tie.close
     (tie.spec
     mul-need
-    refused-at-requires
     returns
     record-at-requires
     sweep-requires

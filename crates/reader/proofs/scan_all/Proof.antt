@@ -1,5 +1,5 @@
 use Rattle.reader.proofs.Scanning.{Scanning, tail-is, begins, stops, refuses, finishes, shorter, goes-on}
-use Rattle.records.specs.Bytes.{firstRecord}
+use Rattle.decoding.specs.Bytes.{firstRecord}
 use lib.ListN.{length}
 use Prim.Native.Nat.{_-_}
 use mathlib.Core.Path.{refl, sym, ap, _∙_}

@@ -9,12 +9,12 @@ use lib.Dec.{eqb}
 use lib.ListN.{length, take}
 use lib.Seq.{take-append-le}
 use borrow.Author.Tests.{eqb-true}
 use Rattle.records.specs.declared.Record.{Record}
 use Rattle.records.specs.Kinds.{bodyLength, sizeOf}
-use Rattle.records.specs.Bytes.{byte, AreBytes, two, targetsIn, recordOf, firstRecord, bytesOf}
+use Rattle.decoding.specs.Bytes.{byte, AreBytes, two, targetsIn, recordOf, firstRecord, bytesOf}
 use Rattle.records.specs.Records.{headerRecord, machineRecord, stepRecord, leafRecord, joinRecord, hideRecord}
 use Rattle.records.specs.Records.{renameRecord, endRecord, otherRecord}
 use Rattle.records.proofs.Sizes.{each-kind}
 
 -- the kind of a decoded record is its first byte
 pick : (x k : ℕ) (p q : Record) → p .kind ≡ k → q .kind ≡ x → cond (eqb x k) p q .kind ≡ x

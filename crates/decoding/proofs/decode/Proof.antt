@@ -1,9 +1,9 @@
-use Rattle.records.specs.Bytes.{recordOf}
+use Rattle.decoding.specs.Bytes.{recordOf}
 use mathlib.Core.Path.{sym, _∙_}
 use borrow.Author.Tests.{ne-eqb}
 use borrow.Author.Needs.{needs}
-use Rattle.records.proofs.decode.Statement.{statement}
-use Rattle.records.proofs.decode.Tie as tie
+use Rattle.decoding.proofs.decode.Statement.{statement}
+use Rattle.decoding.proofs.decode.Tie as tie
 
 byte-at-requires : tie.Need-byte-at-requires
 byte-at-requires c κs = search needs

@@ -2,8 +2,8 @@ use lib.ListN.{List·getD-eq-default}
 use mathlib.Core.Path.{refl, sym}
 use native.Mathlib.Omega.{arith}
 use borrow.Author.Needs.{needs}
-use Rattle.records.proofs.byte_at.Statement.{statement}
-use Rattle.records.proofs.byte_at.Tie as tie
+use Rattle.decoding.proofs.byte_at.Statement.{statement}
+use Rattle.decoding.proofs.byte_at.Tie as tie
 
 shared-slice-read-result : tie.Need-shared-slice-read-result
 shared-slice-read-result c = search needs

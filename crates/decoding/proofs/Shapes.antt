@@ -9,12 +9,12 @@ use native.Mathlib.Decide.{decLt}
 use lib.Dec.{eqb}
 use lib.ListN.{length, take, length-take, List·getD-eq-default}
 use lib.Seq.{getD-take}
 use Rattle.records.specs.declared.Record.{Record}
 use Rattle.records.specs.Kinds.{sizeOf, is}
-use Rattle.records.specs.Bytes.{byte, AreBytes, two, targetsIn, recordOf, firstRecord}
+use Rattle.decoding.specs.Bytes.{byte, AreBytes, two, targetsIn, recordOf, firstRecord}
 use Rattle.records.specs.Records.{noTargets}
 use Rattle.records.specs.Records.{headerRecord, machineRecord, stepRecord, leafRecord, joinRecord, hideRecord}
 use Rattle.records.specs.Records.{renameRecord, endRecord, otherRecord}
 
 -- record r with zeros for the numbers that its kind doesn't use
 unfoldable pub trimmed : Record → Record

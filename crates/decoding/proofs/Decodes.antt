@@ -5,12 +5,12 @@ use mathlib.Core.List.{List, [], _∷_, _++_}
 use Prim.Native.Nat.{ℕ}
 use native.Mathlib.Omega.{arith}
 use lib.ListN.{length}
 use Rattle.records.specs.declared.Record.{Record}
 use Rattle.records.specs.Kinds.{bodyLength, sizeOf}
-use Rattle.records.specs.Bytes.{targetsIn, recordOf, firstRecord, bytesOf}
+use Rattle.decoding.specs.Bytes.{targetsIn, recordOf, firstRecord, bytesOf}
 use Rattle.records.specs.Records.{headerRecord, machineRecord, stepRecord, leafRecord, joinRecord, hideRecord}
 use Rattle.records.specs.Records.{renameRecord, endRecord}
-use Rattle.records.proofs.Bytes.{two-back}
+use Rattle.decoding.proofs.Bytes.{two-back}
 
 pub record Decodes (r : Record) : Type 0 where
   pub comes-back : (u : List ℕ) → firstRecord (bytesOf r ++ u) ≡ r

@@ -5,9 +5,9 @@ use mathlib.Core.List.{List}
 use Prim.Native.Nat.{ℕ, _≤_}
 use lib.ListN.{length, take}
 use lib.Seq.{take-all}
 use Rattle.records.specs.declared.Record.{Record}
 use Rattle.records.specs.Kinds.{sizeOf}
-use Rattle.records.specs.Bytes.{byte, recordOf, firstRecord}
+use Rattle.decoding.specs.Bytes.{byte, recordOf, firstRecord}
 
 module _ (b : List ℕ) (size : ℕ) (r : Record) (e : size ≡ sizeOf (byte b 0)) where
   pub first-whole : r ≡ recordOf (take size b) → r ≡ firstRecord b

@@ -1,11 +1,11 @@
-use Rattle.records.proofs.Decoding.{first-whole, first-short}
+use Rattle.decoding.proofs.Decoding.{first-whole, first-short}
 use Rattle.records.specs.Kinds.{sizeOf}
 use lib.Seq.{length-take-le}
 use mathlib.Core.Path.{sym, ap, _∙_}
 use native.Mathlib.Omega.{arith}
 use borrow.Author.Needs.{needs}
-use Rattle.records.proofs.first_record.Statement.{statement}
-use Rattle.records.proofs.first_record.Tie as tie
+use Rattle.decoding.proofs.first_record.Statement.{statement}
+use Rattle.decoding.proofs.first_record.Tie as tie
 
 byte-at-requires : tie.Need-byte-at-requires
 byte-at-requires c κs = search needs

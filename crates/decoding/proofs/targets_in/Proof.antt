@@ -1,7 +1,7 @@
-use Rattle.records.specs.Bytes.{targetsIn}
+use Rattle.decoding.specs.Bytes.{targetsIn}
 use borrow.Author.Needs.{needs}
-use Rattle.records.proofs.targets_in.Statement.{statement}
-use Rattle.records.proofs.targets_in.Tie as tie
+use Rattle.decoding.proofs.targets_in.Statement.{statement}
+use Rattle.decoding.proofs.targets_in.Tie as tie
 
 byte-at-requires : tie.Need-byte-at-requires
 byte-at-requires c κs = search needs

@@ -1,0 +1,5 @@
+pub mod Decoding
+pub mod Bytes
+pub mod Decodes
+pub mod Shapes
+pub mod Unique
