@@ -1,5 +1,4 @@
--- Each operation is settled by its contract: two results that meet it are equal, and so are two arrays or sections
--- afterwards. Assumes nothing.
+-- Each operation is settled by its contract: two results that meet it are equal. Assumes nothing.
 use mathlib.Core.Path.{_≡_}
 use mathlib.Core.Bool.{Bool}
 use mathlib.Core.List.{List}

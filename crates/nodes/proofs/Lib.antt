@@ -1,2 +1,3 @@
 pub mod Machines
 pub mod NodeLists
+pub mod Unique

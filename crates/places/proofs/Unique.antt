@@ -1,4 +1,4 @@
--- Each function of the reader is settled by its contract, for every list of bytes: two results that meet it are equal.
+-- Each function of this crate is settled by its contract, for every list of bytes: two results that meet it are equal.
 -- Assumes nothing.
 use mathlib.Core.Path.{_≡_}
 use mathlib.Core.Bool.{Bool, cond}
