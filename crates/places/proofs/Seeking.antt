@@ -7,13 +7,15 @@ use Prim.Native.Nat.{ℕ, zero, suc, _+_, _-_, _≤_, _<_}
 use native.Mathlib.Omega.{arith}
 use lib.Dec.{eqb}
 use lib.ListN.{length, drop, length-drop, drop-of-length-le}
-use lib.Seq.{drop-drop}
+use lib.Seq.{drop-drop, drop-cons}
 use Rattle.records.specs.declared.Record.{Record}
 use Rattle.records.specs.Kinds.{sizeOf}
-use Rattle.decoding.specs.Bytes.{firstRecord}
+use Rattle.records.specs.Records.{otherRecord}
+use Rattle.decoding.specs.Bytes.{byte, firstRecord}
+use Rattle.decoding.proofs.Bytes.{first-kind}
 use Rattle.records.proofs.Sizes.{size-positive, size-most}
 use Rattle.reader.specs.File.{recordsFrom, recordsOf}
-use Rattle.places.specs.Finding.{placeIn}
+use Rattle.places.specs.Finding.{placeIn, sought}
 use Rattle.reader.proofs.Records.{none-left, records-next}
 
 -- nothing is left behind the end
@@ -33,6 +35,15 @@ one-turn s at (suc f) h e = (
       ∙ ap (λ (b : List ℕ). firstRecord (drop at s) ∷ recordsFrom f b)
       (drop-drop (sizeOf (firstRecord (drop at s) .kind)) at s),
 )
+
+-- the kind of the record that begins at a place is the byte there
+pub kind-at : (s : List ℕ) (at : ℕ) → at < length s → firstRecord (drop at s) .kind ≡ byte s at
+kind-at s at h =
+    ap (λ (b : List ℕ). firstRecord b .kind) (drop-cons s at 0 h) ∙ first-kind (byte s at) (drop (suc at) s)
+
+-- whether a record is sought hangs on its kind alone
+pub sought-kind : (nodes : Bool) (r : Record) (k : ℕ) → r .kind ≡ k → sought nodes r ≡ sought nodes (otherRecord k)
+sought-kind nodes r k e = ap (λ (x : ℕ). sought nodes (otherRecord x)) e
 
 -- placeIn by one record
 pub passed-by : (p : Record → Bool) (r : Record) (rs : List Record) (k : ℕ) → (p r && eqb k 0) ≡ false
@@ -101,3 +112,21 @@ module _ (p : Record → Bool) (s : List ℕ) (k : ℕ) where
             near = omega (arith, size-most (r .kind));
             same = z ∙ ap (λ (rs : List Record). at + placeIn p rs left) (sym (turn .2)) ∙ i .same;
           }
+
+-- the same by the kind of the record at a place, which is the byte there
+module _ (nodes : Bool) (s : List ℕ) (k at left : ℕ) (i : Seeking (sought nodes) s k at left) (more : at < length s) where
+  pub kind-found : (sought nodes (otherRecord (byte s at)) && eqb left 0) ≡ true
+      → at ≡ placeIn (sought nodes) (recordsOf s) k
+  kind-found q =
+      seek-found (sought nodes) s k at left i (firstRecord (drop at s)) refl more
+      (ap (λ (b : Bool). b && eqb left 0) (sought-kind nodes (firstRecord (drop at s)) (byte s at) (kind-at s at more))
+      ∙ q)
+
+  pub kind-next : (sought nodes (otherRecord (byte s at)) && eqb left 0) ≡ false
+      → Seeking (sought nodes) s k (at + sizeOf (byte s at))
+      (cond (sought nodes (otherRecord (byte s at))) (left - 1) left)
+  kind-next q =
+      rw (← kind-at s at more)
+      (seek-next (sought nodes) s k at left i (firstRecord (drop at s)) refl more
+      (ap (λ (b : Bool). b && eqb left 0) (sought-kind nodes (firstRecord (drop at s)) (byte s at) (kind-at s at more))
+      ∙ q))
