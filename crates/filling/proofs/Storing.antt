@@ -2,10 +2,13 @@
 -- Assumes nothing.
 use mathlib.Core.Path.{_≡_, refl, sym, ap, ap₂, _∙_}
 use mathlib.Core.List.{List, _++_, append-assoc}
-use Prim.Native.Nat.{ℕ, suc, _+_, _≤_, _<_}
+use mathlib.Core.Bool.{Bool, true, false}
+use Prim.Native.Nat.{ℕ, suc, _+_, _≤_, _<_, min}
 use native.Mathlib.Numerals.{add-one}
 use native.Mathlib.Omega.{arith}
 use lib.ListN.{length, take, drop, getD, set, drop-of-length-le, length-append, length-drop}
+use lib.Dec.{ltb}
+use borrow.Author.Tests.{ltb-true, ltb-false}
 use lib.Seq.{take-suc, drop-cons, set-at, length-take-le, take-all}
 use Rattle.filling.specs.Building.{stored}
 
@@ -38,7 +41,7 @@ module _ (es ss : List ℕ) where
       ∙ omega (arith, length-take-le i es (g .most), length-drop i ss, g .within)
 
   -- the section is full
-  pub storing-full : (xs : List ℕ) (i : ℕ) → Storing es ss xs i → length ss ≤ i → xs ≡ stored es ss
+  storing-full : (xs : List ℕ) (i : ℕ) → Storing es ss xs i → length ss ≤ i → xs ≡ stored es ss
   unfolding stored
   storing-full xs i g h =
       let e : i ≡ length ss = omega (arith, g .within) in
@@ -47,9 +50,18 @@ module _ (es ss : List ℕ) where
       g .so-far ∙ ap₂ _++_ (ap (λ (k : ℕ). take k es) e) none
 
   -- the array is at its end
-  pub storing-end : (xs : List ℕ) (i : ℕ) → Storing es ss xs i → length es ≡ i → xs ≡ stored es ss
+  storing-end : (xs : List ℕ) (i : ℕ) → Storing es ss xs i → length es ≡ i → xs ≡ stored es ss
   unfolding stored
   storing-end xs i g h =
       g .so-far
       ∙ ap₂ _++_ (take-all i es (omega arith) ∙ sym (take-all (length ss) es (omega (arith, g .within))))
       (ap (λ (k : ℕ). drop k ss) (sym h))
+
+  -- whichever comes first
+  pub storing-done : (xs : List ℕ) (i : ℕ) → Storing es ss xs i → length es ≡ 256 → min 256 (length ss) ≤ i
+      → xs ≡ stored es ss
+  storing-done xs i g e h = go (ltb i (length ss)) refl
+    where
+      go : (b : Bool) → ltb i (length ss) ≡ b → xs ≡ stored es ss
+      go true q = storing-end xs i g (omega (arith, ltb-true i (length ss) q, g .most, h, e))
+      go false q = storing-full xs i g (ltb-false i (length ss) q)

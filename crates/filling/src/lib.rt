@@ -1,6 +1,6 @@
 // One node's list while it is filled: sorted insertion into 256 entries, over at a 257th; and its section.
 ghost use mathlib.Core.Path.{_≡_};
-ghost use Prim.Native.Nat.{_<_, _≤_};
+ghost use Prim.Native.Nat.{_<_, _≤_, min};
 ghost use lib.ListN.{length, take};
 ghost use Rattle.network.specs.Lists.{keepIf};
 ghost use Rattle.filling.specs.Building.{stateOf, offer, offerAll, Held, Made, Place, Shifted, stored};
@@ -105,15 +105,23 @@ pub struct PairList {
     pub over: bool,
 }
 
+// How many of 256 entries a section of this length has room for.
+fn room_for(length: usize) -> usize
+    ensures { λ r. ⌜ r ≡ min 256 length ⌝ }
+{
+    if length < 256 {
+        return length;
+    }
+    256
+}
+
 // The whole array into a section, zeros included; of a section that is too short, as much as it has room for.
 pub fn store(list: PairList, section: &mut [u32])
     ensures { λ r. ⌜ now (section .exit) ≡ stored (list .entries) (now (section .entry)) ⌝ }
 {
+    let room = room_for(section.len());
     let mut i = 0;
-    while i < 256 {
-        if section.len() <= i {
-            return;
-        }
+    while i < room {
         section[i] = list.entries[i];
         i += 1;
     }
