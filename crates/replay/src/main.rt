@@ -1,56 +1,17 @@
-// Each argument names a file. Its analysis in an area with room to spare, filled with aaaaaaaa: the answer, how many
-// entries are zero and how many untouched, and after a pass the pairs of each section; then in an area of just the
-// needed size, whose sections must be the same; then in one that is an entry short.
+// Each argument names a file. Its analysis in an area with room to spare, filled with aaaaaaaa: the printed result, and
+// how many entries are zero and how many untouched; then, if the file is readable, in an area of just the needed size,
+// whose sections must be the same, and in one that is an entry short: the first line and those two numbers.
 ghost use Prim.Native.Nat.{_≤_};
 use reader::Reading;
+use report::Line;
 use verdict::Answer;
 
-// The answer, in document 01's words and numbers; whether it is a pass.
-fn print_answer(a: Answer) -> bool {
-    match a {
-        Answer::Pass(p) => {
-            io::write_all(1, b" pass ");
-            io::print_decimal(1, p.bound);
-            true
-        }
-        Answer::Inconclusive(k) => {
-            io::write_all(1, b" inconclusive ");
-            io::print_decimal(1, k as u64);
-            false
-        }
-        Answer::Refused(f) => {
-            io::write_all(1, b" refused ");
-            io::print_decimal(1, f.number as u64);
-            io::write_all(1, b" ");
-            io::print_decimal(1, f.place as u64);
-            false
-        }
-    }
-}
-
-// The pairs of a list, up to the zeros behind them.
-fn print_pairs(section: &[u32]) {
-    let mut i = 0;
-    while i < section.len() {
-        let entry = section[i] as u64;
-        if entry == 0 {
-            return;
-        }
-        io::write_all(1, b" ");
-        io::print_hex(1, entry, 8);
-        i += 1;
-    }
-}
-
-// A line for each section: its pairs.
-fn print_sections(sections: &[u32]) {
-    let mut at = 0;
-    while 256 <= sections.len() - at {
-        io::write_all(1, b"list");
-        print_pairs(&sections[at..at + 256]);
-        io::write_all(1, b"\n");
-        at += 256;
-    }
+// The first line of an answer, without its line feed.
+fn print_answer(a: Answer) {
+    let line = report::first_line(a);
+    let bytes = line.bytes;
+    let end = line.length - 1;
+    io::write_all(1, &bytes[..end]);
 }
 
 // 1 for two equal entries, otherwise 0.
@@ -98,29 +59,24 @@ fn print_counts(area: &[u32]) {
     io::write_all(1, b"\n");
 }
 
-// With room to spare: the answer, the counts and after a pass the lists.
-fn replay_spare(bytes: &[u8], needed: usize, area: &mut [u32]) {
-    let passed = print_answer(analysis::analyse(bytes, area));
+// With room to spare: the printed result, then the counts.
+fn replay_spare(bytes: &[u8], area: &mut [u32]) {
+    let a = analysis::analyse(bytes, area);
+    console::print_result(bytes, a, area);
+    io::write_all(1, b"spare");
     print_counts(area);
-    if !passed {
-        return;
-    }
-    if needed <= area.len() {
-        print_sections(&area[..needed]);
-    }
 }
 
-// With just so much room.
-fn replay_room(bytes: &[u8], area: &mut [u32]) {
-    io::write_all(1, b"room ");
-    io::print_decimal(1, area.len() as u64);
+// With just so much room: what it is called, the answer and the counts.
+fn replay_room(name: &[u8], bytes: &[u8], area: &mut [u32]) {
+    io::write_all(1, name);
     print_answer(analysis::analyse(bytes, area));
     print_counts(area);
 }
 
 // With just the room that the file needs: whether its sections become the wanted ones.
 fn replay_exact(bytes: &[u8], wanted: &[u32], area: &mut [u32]) {
-    replay_room(bytes, area);
+    replay_room(b"exact ", bytes, area);
     if !is_same(area, wanted) {
         io::write_all(1, b"differs\n");
     }
@@ -129,7 +85,7 @@ fn replay_exact(bytes: &[u8], wanted: &[u32], area: &mut [u32]) {
 // The analysis of a file whose sections have so many entries.
 fn replay_bytes(bytes: &[u8], needed: usize) {
     let mut spare = [2863311530u32; 8448];
-    replay_spare(bytes, needed, &mut spare);
+    replay_spare(bytes, &mut spare);
     if needed == 0 {
         return;
     }
@@ -139,7 +95,7 @@ fn replay_bytes(bytes: &[u8], needed: usize) {
     let mut exact = [2863311530u32; 8192];
     replay_exact(bytes, &spare[..needed], &mut exact[..needed]);
     let mut short = [2863311530u32; 8192];
-    replay_room(bytes, &mut short[..needed - 1]);
+    replay_room(b"short ", bytes, &mut short[..needed - 1]);
 }
 
 // How many entries the sections of a file's nodes have; none if it is refused.
@@ -158,10 +114,12 @@ fn replay_one(k: usize) {
     if os::errno() != 0 {
         return;
     }
+    io::write_all(1, b"file ");
     io::write_all(1, &path[..length]);
+    io::write_all(1, b"\n");
     let fd = os::open_read(&path[..length]);
     if fd < 0 {
-        io::write_all(1, b" unread\n");
+        io::write_all(1, b"unread\n");
         return;
     }
     let mut buffer = [0u8; 4097];

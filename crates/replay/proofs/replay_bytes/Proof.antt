@@ -1,7 +1,7 @@
-use Prim.Native.Nat.{_-_}
 use mathlib.Core.Path.{sym}
-use lib.Seq.{length-take-le}
+use Prim.Native.Nat.{_-_}
 use native.Mathlib.Omega.{arith}
+use lib.Seq.{length-take-le}
 use borrow.Author.Needs.{needs}
 use Rattle.replay.proofs.replay_bytes.Statement.{statement}
 use Rattle.replay.proofs.replay_bytes.Tie as tie
@@ -22,19 +22,21 @@ array-share-prefix-spare : tie.Need-array-share-prefix-spare
 array-share-prefix-spare c = search needs
 
 slice-aggregate-replay-exact : tie.Need-slice-aggregate-replay-exact
-slice-aggregate-replay-exact c =
-    sym (length-take-le (c .before .before .before .before .before .before .before .args .needed) _ (omega arith))
+slice-aggregate-replay-exact c = sym (length-take-le
+    (c .before .before .before .before .before .before .before .args .needed) _ (omega arith))
 
 array-borrow-prefix-exact : tie.Need-array-borrow-prefix-exact
 array-borrow-prefix-exact c = search needs
 
 slice-aggregate-replay-exact-2 : tie.Need-slice-aggregate-replay-exact-2
-slice-aggregate-replay-exact-2 c =
-    sym (length-take-le (c .before .before .before .before .before .before .before .before .args .needed) _
-    (omega arith))
+slice-aggregate-replay-exact-2 c = sym (length-take-le
+    (c .before .before .before .before .before .before .before .before .args .needed) _ (omega arith))
 
 replay-exact-requires : tie.Need-replay-exact-requires
 replay-exact-requires c κs = search needs
+
+slice-aggregate-replay-room : tie.Need-slice-aggregate-replay-room
+slice-aggregate-replay-room c = search needs
 
 sub-short : tie.Need-sub-short
 sub-short c = search needs
@@ -42,10 +44,10 @@ sub-short c = search needs
 array-borrow-prefix-short : tie.Need-array-borrow-prefix-short
 array-borrow-prefix-short c = search needs
 
-slice-aggregate-replay-room : tie.Need-slice-aggregate-replay-room
-slice-aggregate-replay-room c =
-    sym (length-take-le
-    (c .before .before .before .before .before .before .before .before .before .before .before .args .needed - 1) _ (omega arith))
+slice-aggregate-replay-room-2 : tie.Need-slice-aggregate-replay-room-2
+slice-aggregate-replay-room-2 c =
+    let start = c .before .before .before .before .before .before .before .before .before .before .before .before in
+    sym (length-take-le (start .args .needed - 1) _ (omega arith))
 
 replay-room-requires : tie.Need-replay-room-requires
 replay-room-requires c κs = search needs
@@ -66,8 +68,9 @@ replay-bytes-spec =
     array-borrow-prefix-exact
     slice-aggregate-replay-exact-2
     replay-exact-requires
+    slice-aggregate-replay-room
     sub-short
     array-borrow-prefix-short
-    slice-aggregate-replay-room
+    slice-aggregate-replay-room-2
     replay-room-requires
     returns-3)

@@ -1,0 +1,10 @@
+pub mod Decimals
+pub mod Layings
+pub mod Filling
+pub mod Standing
+pub mod Counting
+pub mod Example
+pub mod Long
+pub mod FromArea
+pub mod Promise
+pub mod Unique

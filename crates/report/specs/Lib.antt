@@ -1,0 +1,5 @@
+pub mod Text
+pub mod Printed
+pub mod Example
+pub mod Promise
+pub mod Laying
