@@ -1,10 +1,10 @@
 -- Lines put behind each other in a buffer. Assumes nothing.
 use mathlib.Core.Path.{_≡_, refl, sym, ap, _∙_}
-use mathlib.Core.List.{List, [], _∷_, _++_, append-assoc}
-use Prim.Native.Nat.{ℕ, zero, suc, _+_, _-_, _≤_, _<_, min}
+use mathlib.Core.List.{List, _++_, append-assoc}
+use Prim.Native.Nat.{ℕ, _+_, _-_, _≤_}
 use native.Mathlib.Omega.{arith}
-use lib.ListN.{length, take, drop, getD, set, length-append, length-replicate, length-take}
-use lib.Seq.{sets, sets-eq, length-sets, take-append-add, take-append-le, take-at, length-take-le, take-length}
+use lib.ListN.{length, take, drop, length-append, length-take}
+use lib.Seq.{sets-eq, length-sets, take-append-add, take-append-le, take-at, length-take-le}
 use lib.Seq.{take-all}
 use Rattle.filling.specs.Building.{zeros}
 use Rattle.report.specs.Text.{framed}

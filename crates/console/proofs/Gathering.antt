@@ -1,12 +1,11 @@
 -- A node's text gathered in a buffer: its line, then a line for each pair. Assumes nothing.
 use mathlib.Core.Path.{_≡_, refl, sym, ap, _∙_, subst}
 use mathlib.Core.List.{List, [], _∷_, _++_, flatMap, append-assoc, append-nil}
-use Prim.Native.Nat.{ℕ, zero, suc, _+_, _-_, _*_, _≤_, _<_}
+use Prim.Native.Nat.{ℕ, _+_, _-_, _*_, _≤_, _<_}
 use native.Mathlib.Numerals.{add-one}
 use native.Mathlib.Omega.{arith}
 use lib.ListN.{length, take, getD, length-append, length-replicate}
 use lib.Seq.{take-suc}
-use Rattle.network.specs.Lists.{firstOf, secondOf}
 use Rattle.filling.specs.Building.{zeros}
 use Rattle.report.specs.Text.{nodeLine, pairLine, pairCount, framed, line, hex}
 use Rattle.report.proofs.Counting.{count-within}
@@ -110,8 +109,10 @@ gather-on k kind xs count b b′ bytes n at end i g h q e a =
     }
 
 pub gather-end : (k kind : ℕ) (xs : List ℕ) (count : ℕ) (b : List ℕ) (at i : ℕ) → Gathered k kind xs count b at i
-    → count ≤ i → Holds b at (textOf k kind xs)
+    → count ≤ i → Holds b at (textOf k kind xs) × (length b ≡ 2640)
 unfolding soFar textOf
 gather-end k kind xs count b at i g h =
-    let all : i ≡ pairCount xs = omega (arith, g .count-is, g .within) in
-    subst (λ (j : ℕ). Holds b at (nodeLine k kind (pairCount xs) ++ flatMap pairLine (take j xs))) all (g .holds)
+    let all : i ≡ pairCount xs = omega (arith, g .count-is, g .within) in (
+      subst (λ (j : ℕ). Holds b at (nodeLine k kind (pairCount xs) ++ flatMap pairLine (take j xs))) all (g .holds),
+      g .size,
+    )

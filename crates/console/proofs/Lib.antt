@@ -1,2 +1,4 @@
 pub mod Adding
 pub mod Gathering
+pub mod Walking
+pub mod Promise

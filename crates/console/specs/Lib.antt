@@ -1,1 +1,3 @@
 pub mod Output
+pub mod Walking
+pub mod Promise

@@ -36,7 +36,9 @@ fn add_line(line: Line, buffer: &mut [u8; 2640], at: usize) -> usize
 // The text of a node in the buffer; where it ends.
 fn node_text(k: u32, kind: u32, section: &[u32], buffer: &mut [u8; 2640]) -> usize
     requires { ⌜ (length (now section) ≤ 256) × (length (now buffer) ≡ 2640) ⌝ }
-    ensures { λ r. ⌜ Holds (now (buffer .exit)) r (textOf k kind (now (section .entry))) ⌝ }
+    ensures { λ r. ⌜
+        Holds (now (buffer .exit)) r (textOf k kind (now (section .entry))) × (length (now (buffer .exit)) ≡ 2640)
+        ⌝ }
 {
     let count = report::pair_count(section);
     let mut at = add_line(report::node_line(k, kind, count), buffer, 0);
@@ -48,20 +50,12 @@ fn node_text(k: u32, kind: u32, section: &[u32], buffer: &mut [u8; 2640]) -> usi
     at
 }
 
-// The text of a node; whether it was written.
-fn print_node(k: u32, kind: u32, section: &[u32]) -> bool
-    requires { ⌜ length (now section) ≤ 256 ⌝ }
-{
-    let mut buffer = [0u8; 2640];
-    let end = node_text(k, kind, section, &mut buffer);
-    io::write_all(1, &buffer[..end])
-}
-
-// The nodes of a file that passed, one behind another up to its end, each with its section of the area; whether all
-// was written.
+// The nodes of a file that passed, one behind another up to its end record, each with its section of the area; whether
+// all was written. An area that has no section for a node ends it, which none does in which a file passed.
 fn print_nodes(bytes: &[u8], area: &[u32]) -> bool
     requires { ⌜ length (now bytes) ≤ 4096 ⌝ }
 {
+    let mut buffer = [0u8; 2640];
     let mut place = places::node_place(bytes, 0);
     let mut k: u32 = 0;
     let mut at = 0;
@@ -73,7 +67,8 @@ fn print_nodes(bytes: &[u8], area: &[u32]) -> bool
         if area.len() - at < 256 {
             return false;
         }
-        if !print_node(k, kind, &area[at..at + 256]) {
+        let end = node_text(k, kind, &area[at..at + 256], &mut buffer);
+        if !io::write_all(1, &buffer[..end]) {
             return false;
         }
         place += records::size_of(kind);

@@ -3,7 +3,6 @@
 // whose sections must be the same, and in one that is an entry short: the first line and those two numbers.
 ghost use Prim.Native.Nat.{_≤_};
 use reader::Reading;
-use report::Line;
 use verdict::Answer;
 
 // The first line of an answer, without its line feed.

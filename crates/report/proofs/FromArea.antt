@@ -1,25 +1,21 @@
 -- What the analysis leaves in the area says the lists: no pair of a list is zero, so a section's entries before the
 -- first zero are its list, and the record where a node begins has the node's kind. Assumes nothing.
 use mathlib.Core.Path.{_≡_, refl, sym, ap, _∙_}
-use mathlib.Core.Bool.{Bool, true, false, cond, _||_}
-use mathlib.Core.List.{List, [], _∷_, _++_, flatMap, List·Memᴰ, List·Memᴰ·head, List·Memᴰ·tail}
-use Prim.Native.Nat.{ℕ, zero, suc, _+_, _-_, _*_, _≤_, _<_}
+use mathlib.Core.Bool.{Bool, true, false}
+use mathlib.Core.List.{List, [], _∷_, _++_, List·Memᴰ, List·Memᴰ·head, List·Memᴰ·tail}
+use Prim.Native.Nat.{ℕ, zero, suc, _+_, _-_, _≤_, _<_}
 use native.Mathlib.Omega.{arith}
-use lib.Dec.{eqb}
 use lib.ListN.{length, take, drop, getD, take-append-drop}
 use lib.Seq.{take-append-seam}
 use borrow.Author.Tests.{eqb-true, ne-eqb}
-use Rattle.network.specs.Network.{Network}
-use Rattle.network.specs.Rules.{Flag}
-use Rattle.network.specs.Model.{Node, leafNode, Model, nodeNetwork, bound, WellFormed}
-use Rattle.network.specs.Lists.{firstOf, secondOf, listOf, IsListOf}
+use Rattle.network.specs.Model.{leafNode, nodeNetwork, WellFormed}
+use Rattle.network.specs.Lists.{firstOf, secondOf, listOf}
 use Rattle.network.specs.Verdict.{Verdict, pass, inconclusive, refused, mostPairs, verdict}
 use Rattle.network.specs.Promise.{NodePasses}
 use Rattle.network.proofs.Lists.{list-is, list-unique}
 use Rattle.network.proofs.Listed.{never-empty}
 use Rattle.network.proofs.Nodes.{nodes-formed, nodes-clear}
 use Rattle.records.specs.declared.Record.{Record}
-use Rattle.tests.specs.declared.Refusal.{Refusal}
 use Rattle.records.specs.Kinds.{leafKind, joinKind, hideKind, renameKind, is, isNode}
 use Rattle.decoding.specs.Bytes.{AreBytes}
 use Rattle.reader.specs.declared.Reading.{Reading}
@@ -35,7 +31,7 @@ use Rattle.analysis.specs.Analysis.{areaAfter}
 use Rattle.analysis.specs.Promise.{verdictOn, section, PassExactly, SectionsAreLists, PassBoundsSilence}
 use Rattle.analysis.proofs.Outcomes.{Outcome, unread, roomless, judged, outcome, read-not}
 use Rattle.analysis.proofs.Promise.{passes-exactly, sections-are-lists, pass-bounds}
-use Rattle.report.specs.Text.{firstLine, nodeLine, pairLine, pairCount}
+use Rattle.report.specs.Text.{firstLine, pairCount}
 use Rattle.report.specs.Printed.{verdictAt, kindOf, nodeText, inTurn, printedFor, printed}
 use Rattle.report.specs.Promise.{sectionText, linesFrom, LinesArePrinted}
 
@@ -71,6 +67,12 @@ kind-of-record r h =
     at false p false q false s false t =
         let n : false ≡ true = rw (p, q, s, t) at h in
         let z : _≡_ {A = ℕ} 0 1 = cc in absurd (omega arith)
+
+pub kind-found : (s : List ℕ) (k : ℕ) → k < length (fileModel s .nodes)
+    → recordAt s (nodePlace s k) .kind ≡ kindOf (getD (fileModel s .nodes) k (leafNode 0))
+kind-found s k h =
+    let found = node-found s k h in
+    sym (kind-of-record (recordAt s (nodePlace s k)) (found .1)) ∙ ap kindOf (found .0)
 
 -- after a pass: a node's text from the file and the area is its text
 module _ (s area : List ℕ) (y : AreBytes s) (e : says s ≡ readable) (room : needed (fileModel s) ≤ length area) (b : ℕ)
@@ -119,10 +121,7 @@ module _ (s area : List ℕ) (y : AreBytes s) (e : says s ≡ readable) (room : 
       ap pairCount (there .1) ∙ count-of-list xs (there .0) (not-zero k h) in
       let pairs : take (length xs) (section (areaAfter s area) k) ≡ xs =
       ap (take (length xs)) (there .1) ∙ take-append-seam xs (zeros (there .0)) in
-      let found = node-found s k h in
-      let kind : recordAt s (nodePlace s k) .kind ≡ kindOf (getD (fileModel s .nodes) k (leafNode 0)) =
-      sym (kind-of-record (recordAt s (nodePlace s k)) (found .1)) ∙ ap kindOf (found .0) in
-      rw (count, pairs, kind)
+      rw (count, pairs, kind-found s k h)
 
   nodes-are : inTurn (sectionText s (areaAfter s area)) 0 (length (fileModel s .nodes))
       ≡ inTurn (nodeText (fileModel s)) 0 (length (fileModel s .nodes))

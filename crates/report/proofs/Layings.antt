@@ -1,13 +1,13 @@
 -- Texts stored in a line one behind another: the line is what they say together, then zeros. Assumes nothing.
 use mathlib.Core.Path.{_≡_, refl, sym, ap, _∙_}
-use mathlib.Core.List.{List, [], _∷_, _++_, append-nil, append-assoc}
-use Prim.Native.Nat.{ℕ, zero, suc, _+_, _-_, _≤_, _<_}
+use mathlib.Core.List.{List, [], _∷_, _++_, append-nil}
+use Prim.Native.Nat.{ℕ, suc, _+_, _-_, _≤_, _<_}
 use native.Mathlib.Numerals.{add-one}
 use native.Mathlib.Omega.{arith}
-use lib.ListN.{length, take, getD, set, replicate, length-append}
+use lib.ListN.{length, take, getD, set, length-append}
 use lib.Seq.{sets, set-comm, append-snoc, set-at, take-suc, take-all, length-take-le}
 use Rattle.filling.specs.Building.{zeros}
-use Rattle.report.specs.Text.{longest, framed}
+use Rattle.report.specs.Text.{framed}
 use Rattle.report.specs.Laying.{laid, Laid}
 
 -- a text behind another

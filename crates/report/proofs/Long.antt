@@ -1,5 +1,5 @@
 -- A longer input than 4,096 bytes is refused with 1 at 0, and so are its first 4,097 bytes. Assumes nothing.
-use mathlib.Core.Path.{_≡_, refl}
+use mathlib.Core.Path.{_≡_}
 use mathlib.Core.List.{List}
 use Prim.Native.Nat.{ℕ, _<_}
 use native.Mathlib.Omega.{arith}
