@@ -24,7 +24,7 @@ use Rattle.decoding.specs.Bytes.{AreBytes}
 use Rattle.records.proofs.Choices.{true-not-false}
 use Rattle.reader.specs.Scan.{readable, says}
 use Rattle.reader.specs.File.{fileModel}
-use Rattle.places.specs.Finding.{machinePlace, statesOf, stepsAt}
+use Rattle.places.specs.Finding.{machinePlace, recordAt, statesOf, stepsAt}
 use Rattle.reader.proofs.Formed.{model-formed}
 use Rattle.places.proofs.Found.{machine-found}
 use Rattle.entries.specs.Entries.{width}
@@ -41,6 +41,11 @@ use Rattle.reach.proofs.Records.{formed-ends}
 use Rattle.nodes.specs.declared.Operands.{Operands}
 use Rattle.nodes.specs.Nodes.{leftOf, rightOf, listFor, NodeReady, Built}
 use Rattle.nodes.proofs.Machines.{named, steps-within, machine-is, named-formed, named-states}
+
+-- the number of the record where machine m begins is its state count
+pub states-at : (s : List ℕ) (m p x : ℕ) → p ≡ machinePlace s m → x ≡ recordAt s p .number → x ≡ statesOf s m
+unfolding statesOf
+states-at s m p x ep ex = ex ∙ ap (λ (q : ℕ). recordAt s q .number) ep
 
 -- machine m of the readable file s begins at p, has c steps and st states
 module _ (s : List ℕ) (y : AreBytes s) (e : says s ≡ readable) (m : ℕ) (h : m < length (fileModel s .machines))

@@ -70,9 +70,10 @@ pub fn is_spinning_leaf(bytes: &[u8], r: Record) -> bool
     if r.kind != records::LEAF {
         return false;
     }
-    let at = places::machine_place(bytes, r.number) + 2;
+    let place = places::machine_place(bytes, r.number);
+    let at = place + 2;
     let end = at + 4 * places::steps_at(bytes, at) as usize;
-    leaf::is_spinning(&bytes[at..end], places::states_of(bytes, r.number))
+    leaf::is_spinning(&bytes[at..end], places::number_at(bytes, place))
 }
 
 // The list of a leaf of machine m.
@@ -86,9 +87,10 @@ fn leaf_list(bytes: &[u8], m: u32, n: u32) -> PairList
         (r .count) (r .over) (r .entries)
         ⌝ }
 {
-    let at = places::machine_place(bytes, m) + 2;
+    let place = places::machine_place(bytes, m);
+    let at = place + 2;
     let end = at + 4 * places::steps_at(bytes, at) as usize;
-    leaf::pairs(&bytes[at..end], places::states_of(bytes, m), n)
+    leaf::pairs(&bytes[at..end], places::number_at(bytes, place), n)
 }
 
 // The list of a node, from its operands'.

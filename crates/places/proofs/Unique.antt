@@ -34,6 +34,10 @@ record-at-unique s place x x′ p q = settled p q
 pub steps-at-unique : (s : List ℕ) (place : ℕ) (x x′ : ℕ) → x ≡ stepsAt s place → x′ ≡ stepsAt s place → x ≡ x′
 steps-at-unique s place x x′ p q = settled p q
 
+pub number-at-unique : (s : List ℕ) (place : ℕ) (x x′ : ℕ) → x ≡ recordAt s place .number → x′ ≡ recordAt s place .number
+    → x ≡ x′
+number-at-unique s place x x′ p q = settled p q
+
 pub states-of-unique : (s : List ℕ) (m : ℕ) (x x′ : ℕ) → x ≡ statesOf s m → x′ ≡ statesOf s m → x ≡ x′
 states-of-unique s m x x′ p q = settled p q
 

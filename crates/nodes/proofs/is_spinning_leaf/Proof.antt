@@ -1,4 +1,4 @@
-use Rattle.nodes.proofs.NodeLists.{row-within, row-states, row-ends, row-spins, no-leaf, leaf-flag}
+use Rattle.nodes.proofs.NodeLists.{states-at, row-within, row-states, row-ends, row-spins, no-leaf, leaf-flag}
 use Rattle.nodes.proofs.Machines.{steps-within}
 use Rattle.places.specs.Finding.{statesOf}
 use mathlib.Core.Path.{refl}
@@ -72,40 +72,37 @@ part-is-spinning-end c = let g = c .before .before .before .before .before .args
     row-within (g .bytes .now) y (c .before .before .before .before .before .pre .0) (g .r .number) h (p .result)
     (d .result) (statesOf (g .bytes .now) (g .r .number)) (p .ensures) (d .ensures) refl
 
-states-of-requires : tie.Need-states-of-requires
-states-of-requires c κs = let g = c .before .before .before .before .before .before .args in
-    let y = bytes-in (g .bytes .now)
-    (λ i. omega (arith, c .before .before .before .before .before .shared-slice-known .given i)) in
-    short (g .bytes .now) y (c .before .before .before .before .before .before .pre .0)
+number-at-requires : tie.Need-number-at-requires
+number-at-requires c κs = search needs
 
 is-spinning-requires : tie.Need-is-spinning-requires
 is-spinning-requires c κs = let g = c .before .before .before .before .before .before .before .args in
     let p = c .before .before .before .machine-place in
     let d = c .before .before .steps-at in
-    let t = c .states-of in
+    let t = c .number-at in
     let y = bytes-in (g .bytes .now)
     (λ i. omega (arith, c .before .before .before .before .before .before .shared-slice-known .given i)) in
     let h = c .before .before .before .before .before .before .before .pre .1
     (eq-eqb (g .r .kind) 4 (c .before .before .before .before .if1 .left)) in (
       row-states (g .bytes .now) y (c .before .before .before .before .before .before .before .pre .0) (g .r .number) h
-          (p .result) (d .result) (t .result) (p .ensures) (d .ensures) (t .ensures),
+          (p .result) (d .result) (t .result) (p .ensures) (d .ensures) (states-at (g .bytes .now) (g .r .number) (p .result) (t .result) (p .ensures) (t .ensures)),
       row-ends (g .bytes .now) y
           (c .before .before .before .before .before .before .before .pre .0) (g .r .number) h (p .result) (d .result)
-          (t .result) (p .ensures) (d .ensures) (t .ensures),
+          (t .result) (p .ensures) (d .ensures) (states-at (g .bytes .now) (g .r .number) (p .result) (t .result) (p .ensures) (t .ensures)),
     )
 
 returns-2 : tie.Need-returns-2
 returns-2 c = let g = c .before .before .before .before .before .before .before .before .args in
     let p = c .before .before .before .before .machine-place in
     let d = c .before .before .before .steps-at in
-    let t = c .before .states-of in
+    let t = c .before .number-at in
     let y = bytes-in (g .bytes .now)
     (λ i. omega (arith, c .before .before .before .before .before .before .before .shared-slice-known .given i)) in
     let h = c .before .before .before .before .before .before .before .before .pre .1
     (eq-eqb (g .r .kind) 4 (c .before .before .before .before .before .if1 .left)) in
     leaf-flag (g .r) _ _ (c .before .before .before .before .before .if1 .left)
     (row-spins (g .bytes .now) y (c .before .before .before .before .before .before .before .before .pre .0)
-    (g .r .number) h (p .result) (d .result) (t .result) (p .ensures) (d .ensures) (t .ensures) _
+    (g .r .number) h (p .result) (d .result) (t .result) (p .ensures) (d .ensures) (states-at (g .bytes .now) (g .r .number) (p .result) (t .result) (p .ensures) (t .ensures)) _
     (c .is-spinning .ensures))
 
 pub is-spinning-leaf-spec : {M : Type 1} → statement M
@@ -122,6 +119,6 @@ is-spinning-leaf-spec =
     sub-is-spinning
     part-is-spinning-start
     part-is-spinning-end
-    states-of-requires
+    number-at-requires
     is-spinning-requires
     returns-2)

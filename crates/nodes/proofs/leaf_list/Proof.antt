@@ -1,4 +1,4 @@
-use Rattle.nodes.proofs.NodeLists.{row-within, row-asked, row-list}
+use Rattle.nodes.proofs.NodeLists.{states-at, row-within, row-asked, row-list}
 use Rattle.nodes.proofs.Machines.{steps-within}
 use Rattle.places.specs.Finding.{statesOf}
 use mathlib.Core.Path.{refl}
@@ -63,32 +63,30 @@ part-pairs-end c = let g = c .before .before .before .args in
     row-within (g .bytes .now) y (c .before .before .before .pre .0) (g .m) (c .before .before .before .pre .1)
     (p .result) (d .result) (statesOf (g .bytes .now) (g .m)) (p .ensures) (d .ensures) refl
 
-states-of-requires : tie.Need-states-of-requires
-states-of-requires c κs = let g = c .before .before .before .before .args in
-    let y = bytes-in (g .bytes .now) (λ i. omega (arith, c .before .before .before .shared-slice-known .given i)) in
-    short (g .bytes .now) y (c .before .before .before .before .pre .0)
+number-at-requires : tie.Need-number-at-requires
+number-at-requires c κs = search needs
 
 pairs-requires : tie.Need-pairs-requires
 pairs-requires c κs = let g = c .before .before .before .before .before .args in
     let p = c .before .before .before .machine-place in
     let d = c .before .before .steps-at in
-    let t = c .states-of in
+    let t = c .number-at in
     let y = bytes-in (g .bytes .now)
     (λ i. omega (arith, c .before .before .before .before .shared-slice-known .given i)) in
     row-asked (g .bytes .now) y (c .before .before .before .before .before .pre .0) (g .m)
     (c .before .before .before .before .before .pre .1) (p .result) (d .result) (t .result) (p .ensures) (d .ensures)
-    (t .ensures) (g .n) (c .before .before .before .before .before .pre .2)
+    (states-at (g .bytes .now) (g .m) (p .result) (t .result) (p .ensures) (t .ensures)) (g .n) (c .before .before .before .before .before .pre .2)
 
 returns : tie.Need-returns
 returns c = let g = c .before .before .before .before .before .before .args in
     let p = c .before .before .before .before .machine-place in
     let d = c .before .before .before .steps-at in
-    let t = c .before .states-of in
+    let t = c .before .number-at in
     let y = bytes-in (g .bytes .now)
     (λ i. omega (arith, c .before .before .before .before .before .shared-slice-known .given i)) in
     row-list (g .bytes .now) y (c .before .before .before .before .before .before .pre .0) (g .m)
     (c .before .before .before .before .before .before .pre .1) (p .result) (d .result) (t .result) (p .ensures)
-    (d .ensures) (t .ensures) (g .n) (c .before .before .before .before .before .before .pre .2) _ _ _
+    (d .ensures) (states-at (g .bytes .now) (g .m) (p .result) (t .result) (p .ensures) (t .ensures)) (g .n) (c .before .before .before .before .before .before .pre .2) _ _ _
     (c .pairs .ensures)
 
 pub leaf-list-spec : {M : Type 1} → statement M
@@ -104,6 +102,6 @@ leaf-list-spec =
     sub-pairs
     part-pairs-start
     part-pairs-end
-    states-of-requires
+    number-at-requires
     pairs-requires
     returns)
