@@ -3,7 +3,8 @@
 use mathlib.Core.Path.{_≡_, refl, ap}
 use mathlib.Core.List.{[], _∷_}
 use mathlib.Core.Bool.{Bool, true, false}
-use Prim.Native.Nat.{ℕ, zero, suc, _<_, _≤_}
+use mathlib.Core.Logic.{_≢_}
+use Prim.Native.Nat.{ℕ, zero, suc, _≤_}
 use native.Mathlib.Omega.{arith}
 use lib.Dec.{ltb}
 use lib.ListN.{getD, List·getD-eq-default}
@@ -23,17 +24,24 @@ each-kind P a b c d e f g h (suc (suc (suc (suc (suc (suc (suc zero))))))) l m =
 each-kind P a b c d e f g h (suc (suc (suc (suc (suc (suc (suc (suc zero)))))))) l m = h
 each-kind P a b c d e f g h (suc (suc (suc (suc (suc (suc (suc (suc (suc k))))))))) l m = absurd (omega arith)
 
--- the table that the code has
-pub sizes-are : (k : ℕ) → k < 9 → getD (1 ∷ 2 ∷ 2 ∷ 4 ∷ 2 ∷ 5 ∷ 4 ∷ 18 ∷ 3 ∷ []) k 0 ≡ sizeOf k
-unfolding sizeOf bodyLength
-sizes-are zero h = refl
-sizes-are (suc k) h =
-    each-kind (λ k. getD (1 ∷ 2 ∷ 2 ∷ 4 ∷ 2 ∷ 5 ∷ 4 ∷ 18 ∷ 3 ∷ []) k 0 ≡ sizeOf k)
-    refl refl refl refl refl refl refl refl (suc k) (omega arith) (omega arith)
-
 pub size-beyond : (k : ℕ) → 9 ≤ k → sizeOf k ≡ 1
 unfolding sizeOf bodyLength
 size-beyond k h = ap suc (List·getD-eq-default (0 ∷ 1 ∷ 1 ∷ 3 ∷ 1 ∷ 4 ∷ 3 ∷ 17 ∷ 2 ∷ []) 0 h)
+
+-- a number that is no kind's
+pub size-other : (k : ℕ) → k ≢ 1 → k ≢ 2 → k ≢ 3 → k ≢ 4 → k ≢ 5 → k ≢ 6 → k ≢ 7 → k ≢ 8 → sizeOf k ≡ 1
+unfolding sizeOf bodyLength
+size-other zero a b c d e f g h = refl
+size-other (suc zero) a b c d e f g h = absurd (a refl)
+size-other (suc (suc zero)) a b c d e f g h = absurd (b refl)
+size-other (suc (suc (suc zero))) a b c d e f g h = absurd (c refl)
+size-other (suc (suc (suc (suc zero)))) a b c d e f g h = absurd (d refl)
+size-other (suc (suc (suc (suc (suc zero))))) a b c d e f g h = absurd (e refl)
+size-other (suc (suc (suc (suc (suc (suc zero)))))) a b c d e f g h = absurd (f refl)
+size-other (suc (suc (suc (suc (suc (suc (suc zero))))))) a b c d e f g h = absurd (g refl)
+size-other (suc (suc (suc (suc (suc (suc (suc (suc zero)))))))) a b c d e f g h = absurd (h refl)
+size-other (suc (suc (suc (suc (suc (suc (suc (suc (suc k))))))))) a b c d e f g h =
+    size-beyond (suc (suc (suc (suc (suc (suc (suc (suc (suc k))))))))) (omega arith)
 
 pub size-positive : (k : ℕ) → 1 ≤ sizeOf k
 unfolding sizeOf

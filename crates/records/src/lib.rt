@@ -146,12 +146,33 @@ impl Record {
     }
 }
 
-const SIZES: [usize; 9] = [1, 2, 2, 4, 2, 5, 4, 18, 3];
-
 // Bytes of a record of this kind, the kind's own among them.
 pub fn size_of(kind: u32) -> usize
     ensures { λ r. ⌜ r ≡ sizeOf kind ⌝ }
 {
-    let k = kind as usize;
-    if k < 9 { SIZES[k] } else { 1 }
+    if kind == STEP {
+        return 4;
+    }
+    if kind == HEADER {
+        return 2;
+    }
+    if kind == MACHINE {
+        return 2;
+    }
+    if kind == LEAF {
+        return 2;
+    }
+    if kind == JOIN {
+        return 5;
+    }
+    if kind == HIDE {
+        return 4;
+    }
+    if kind == RENAME {
+        return 18;
+    }
+    if kind == END {
+        return 3;
+    }
+    1
 }
