@@ -1,4 +1,5 @@
 pub mod Carrying
+pub mod Components
 pub mod Enumeration
 pub mod Leaves
 pub mod Offering
