@@ -1,32 +1,31 @@
 -- The walk over the nodes of a readable file finds them all, in order, and stops behind the last. Assumes nothing.
 use mathlib.Core.Path.{_≡_, refl, sym, ap, _∙_}
-use mathlib.Core.Bool.{Bool, true, false, cond}
-use mathlib.Core.List.{List, [], _∷_, _++_, map, flatMap, append-assoc}
-use Prim.Native.Nat.{ℕ, zero, suc, _+_, _-_, _≤_, _<_}
+use mathlib.Core.Bool.{true, false}
+use mathlib.Core.List.{List, [], _∷_, _++_, map}
+use Prim.Native.Nat.{ℕ, zero, suc, _+_, _≤_, _<_}
 use native.Mathlib.Omega.{arith}
 use lib.Dec.{eqb}
 use lib.ListN.{length, drop, getD}
 use lib.Seq.{drop-drop}
 use borrow.Author.Tests.{eq-eqb, ne-eqb}
-use Rattle.network.specs.Machine.{Machine, Step, step}
 use Rattle.network.specs.Model.{Node, leafNode, joinNode, hideNode, renameNode}
 use Rattle.records.specs.declared.Record.{Record}
 use Rattle.records.specs.Kinds.{endKind, sizeOf, isNode}
-use Rattle.records.specs.Records.{headerRecord, endRecord}
+use Rattle.records.specs.Records.{endRecord}
 use Rattle.decoding.specs.Bytes.{byte, firstRecord}
 use Rattle.decoding.proofs.Bytes.{first-kind}
 use Rattle.reader.specs.File.{recordsFrom, recordsOf, fileModel}
 use Rattle.places.specs.Finding.{placeIn, nodePlace}
-use Rattle.reader.specs.Encoding.{recordOfStep, recordsOfMachine, recordOfNode, modelRecords}
+use Rattle.reader.specs.Encoding.{recordOfNode}
 use Rattle.reader.proofs.Records.{none-left, records-next}
-use Rattle.places.proofs.Seeking.{passed-by, found-here}
+use Rattle.places.proofs.Seeking.{found-here, place-behind}
+use Rattle.places.proofs.Next.{NoNode, nodes-stand, node-is-node}
 use Rattle.reader.proofs.Turns.{rest}
-use Rattle.reader.proofs.OneEncoding.{file-listing}
 use Rattle.reader.proofs.Formed.{model-formed}
 use Rattle.analysis.specs.Promise.{section}
 use Rattle.report.specs.Printed.{kindOf, inTurn}
 use Rattle.report.specs.Promise.{sectionText}
-use Rattle.report.proofs.FromArea.{kind-found}
+use Rattle.report.proofs.FromArea.{node-kind, kind-found}
 use Rattle.console.specs.Output.{textOf}
 use Rattle.console.specs.Walking.{walked}
 use Rattle.console.specs.Promise.{WalkFindsNodes}
@@ -63,26 +62,12 @@ eachNode : List ℕ → List Node → ℕ → List ℕ
 eachNode area [] k = []
 eachNode area (x ∷ xs) k = textOf k (kindOf x) (section area k) ++ eachNode area xs (suc k)
 
-node-kind : (x : Node) → recordOfNode x .kind ≡ kindOf x
-unfolding recordOfNode kindOf
-node-kind (leafNode i) = refl
-node-kind (joinNode i j A) = refl
-node-kind (hideNode i A) = refl
-node-kind (renameNode i f) = refl
-
 node-no-end : (x : Node) → eqb (kindOf x) endKind ≡ false
 unfolding kindOf
 node-no-end (leafNode i) = refl
 node-no-end (joinNode i j A) = refl
 node-no-end (hideNode i A) = refl
 node-no-end (renameNode i f) = refl
-
-node-is-node : (x : Node) → isNode (recordOfNode x) ≡ true
-unfolding recordOfNode
-node-is-node (leafNode i) = refl
-node-is-node (joinNode i j A) = refl
-node-is-node (hideNode i A) = refl
-node-is-node (renameNode i f) = refl
 
 -- the walk over bytes whose records are those of some nodes and an end
 walk-is : (area : List ℕ) (xs : List Node) (f fuel : ℕ) (b : List ℕ) (k x : ℕ)
@@ -102,30 +87,6 @@ walk-is area (y ∷ xs) f (suc fuel) b k x q h =
     (ap (λ (t : List ℕ). textOf k (kindOf y) (section area k) ++ t)
     (ap (λ (m : ℕ). walked fuel area (drop (sizeOf m) b) (suc k)) (sym (node-kind y)) ∙ i))
 
--- no record of them is a node
-NoNode : List Record → Type 0
-NoNode [] = Unit {0}
-NoNode (r ∷ rs) = (isNode r ≡ false) × NoNode rs
-
-none-append : (rs qs : List Record) → NoNode rs → NoNode qs → NoNode (rs ++ qs)
-unfolding NoNode
-none-append [] qs a b = b
-none-append (r ∷ rs) qs a b = (a .0, none-append rs qs (a .1) b)
-
-steps-none : (xs : List Step) → NoNode (map recordOfStep xs)
-unfolding NoNode map recordOfStep
-steps-none [] = tt
-steps-none (step s l t ∷ xs) = (refl, steps-none xs)
-
-machines-none : (ms : List Machine) → NoNode (flatMap recordsOfMachine ms)
-unfolding NoNode flatMap recordsOfMachine
-machines-none [] = tt
-machines-none (m ∷ ms) = (
-  refl,
-  none-append (map recordOfStep (m .steps)) (flatMap recordsOfMachine ms) (steps-none (m .steps))
-      (machines-none ms),
-)
-
 -- the records from the first node on
 first-node : (front : List Record) (r : Record) (rs : List Record) (f : ℕ) (b : List ℕ) → NoNode front
     → isNode r ≡ true → recordsFrom f b ≡ front ++ (r ∷ rs)
@@ -139,8 +100,7 @@ first-node (p ∷ front) r rs f b a n q =
     let i = first-node front r rs (w .fuel) (drop (sizeOf (p .kind)) b) (a .1) n (w .behind) in
     let place = placeIn isNode (front ++ (r ∷ rs)) 0 in
     let z : placeIn isNode (p ∷ (front ++ (r ∷ rs))) 0 ≡ sizeOf (p .kind) + placeIn isNode (front ++ (r ∷ rs)) 0 =
-    passed-by isNode p (front ++ (r ∷ rs)) 0 (rw (a .0))
-    ∙ ap (λ (t : Bool). sizeOf (p .kind) + placeIn isNode (front ++ (r ∷ rs)) (cond t (0 - 1) 0)) (a .0) in (
+    place-behind isNode p (front ++ (r ∷ rs)) 0 (a .0) in (
       i .0,
       ap (λ (m : ℕ). recordsFrom (i .0) (drop m b)) z
           ∙ ap (recordsFrom (i .0)) (sym (drop-drop place (sizeOf (p .kind)) b)) ∙ i .1,
@@ -182,17 +142,11 @@ node-said s area i h =
     rw z (ap (λ (kind : ℕ). textOf i kind (section area i)) (kind-found s i h))
 
 pub walk-finds-nodes : WalkFindsNodes
-unfolding WalkFindsNodes NoNode modelRecords fileModel
+unfolding WalkFindsNodes
 walk-finds-nodes s area y e =
-    let l = file-listing s y e .listing in
+    let w = nodes-stand s y e in
     let M = fileModel s in
     let formed = model-formed s y e in
-    let header = headerRecord (M .events) in
-    let machines = flatMap recordsOfMachine (M .machines) in
-    let end = endRecord (l .count) ∷ [] in
-    let listed : recordsOf s ≡ (header ∷ machines) ++ (map recordOfNode (M .nodes) ++ end) =
-    l .listed
-    ∙ ap (λ (rs : List Record). header ∷ rs) (append-assoc machines (map recordOfNode (M .nodes)) end) in
-    from-first s area (M .nodes) (header ∷ machines) (l .count) (refl, machines-none (M .machines))
-    (formed .well-formed .some-node) (formed .within-limits .nodes-limit .1) listed
+    from-first s area (M .nodes) (w .front) (w .count) (w .none) (formed .well-formed .some-node)
+    (formed .within-limits .nodes-limit .1) (w .listed)
     ∙ in-turn area (sectionText s area) (M .nodes) 0 (node-said s area)

@@ -4,24 +4,26 @@ use mathlib.Core.Path.{_≡_, refl, sym, ap, _∙_}
 use mathlib.Core.Bool.{Bool, true, false, cond, _&&_}
 use mathlib.Core.List.{List, [], _∷_}
 use mathlib.Core.Logic.{_⊎_, inl, inr}
-use Prim.Native.Nat.{ℕ, zero, suc, _+_, _-_, _≤_, _<_}
+use Prim.Native.Nat.{ℕ, zero, suc, _+_, _≤_, _<_}
 use native.Mathlib.Omega.{arith}
+use native.Mathlib.Decide.{decLt}
 use lib.Dec.{eqb}
 use lib.ListN.{length, drop, getD, length-drop}
 use lib.Seq.{drop-drop}
-use borrow.Author.Tests.{eqb-true, ne-eqb}
+use borrow.Author.Tests.{eqb-true}
 use Rattle.network.specs.Machine.{Machine}
 use Rattle.network.specs.Model.{Node, leafNode, idle}
 use Rattle.records.specs.declared.Record.{Record}
-use Rattle.records.specs.Kinds.{bodyLength, sizeOf, machineKind, is, isNode}
-use Rattle.decoding.specs.Bytes.{firstRecord}
-use Rattle.records.proofs.Choices.{cond-true, cond-false}
+use Rattle.records.specs.Kinds.{bodyLength, sizeOf, machineKind, leafKind, joinKind, hideKind, renameKind, is, isNode}
+use Rattle.decoding.specs.Bytes.{recordOf, firstRecord}
+use Rattle.records.proofs.Choices.{cond-true, cond-false, true-not-false}
 use Rattle.records.proofs.Sizes.{size-positive}
 use Rattle.reader.specs.File.{recordsFrom, recordsOf, stepsOf, machinesOf, nodeOf, nodesOf, modelOf, fileModel}
+use Rattle.reader.specs.Encoding.{recordOfNode}
 use Rattle.places.specs.Finding.{placeIn, nodePlace, machinePlace, recordAt, statesOf, stepsAt}
 use Rattle.reader.proofs.Turns.{rest}
 use Rattle.reader.proofs.Records.{none-left, records-next}
-use Rattle.places.proofs.Seeking.{passed-by, found-here}
+use Rattle.places.proofs.Seeking.{gone, found-here, place-behind, place-next}
 
 empty-or-not : (n : ℕ) → (n ≡ 0) ⊎ (0 < n)
 empty-or-not zero = inl refl
@@ -100,18 +102,11 @@ module _ {A : Type 0} (p : Record → Bool) (said : Record → List Record → A
         go true q (suc k) m =
             let e : picked (r ∷ rs) ≡ said r rs ∷ picked rs = cond-true (p r) (said r rs ∷ picked rs) (picked rs) q in
             let n : length (picked (r ∷ rs)) ≡ suc (length (picked rs)) = ap length e in
-            let z = passed-by p r rs (suc k) (ap (λ (t : Bool). t && eqb (suc k) 0) q
-            ∙ ne-eqb (suc k) 0 (λ y. omega arith)) in
-            let j : cond (p r) (suc k - 1) (suc k) ≡ k = cond-true (p r) (suc k - 1) (suc k) q ∙ omega arith in
-            behind (suc k) k (z ∙ ap (λ (i : ℕ). sizeOf (r .kind) + placeIn p rs i) j) (omega arith)
-            (sym (ap (λ (xs : List A). getD xs (suc k) d) e))
+            behind (suc k) k (place-next p r rs k q) (omega arith) (sym (ap (λ (xs : List A). getD xs (suc k) d) e))
         go false q k m =
             let e : picked (r ∷ rs) ≡ picked rs = cond-false (p r) (said r rs ∷ picked rs) (picked rs) q in
             let n : length (picked (r ∷ rs)) ≡ length (picked rs) = ap length e in
-            let z = passed-by p r rs k (ap (λ (t : Bool). t && eqb k 0) q) in
-            let j : cond (p r) (k - 1) k ≡ k = cond-false (p r) (k - 1) k q in
-            behind k k (z ∙ ap (λ (i : ℕ). sizeOf (r .kind) + placeIn p rs i) j) (omega arith)
-            (sym (ap (λ (xs : List A). getD xs k d) e))
+            behind k k (place-behind p r rs k q) (omega arith) (sym (ap (λ (xs : List A). getD xs k d) e))
 
   found : (f : ℕ) (b : List ℕ) (k : ℕ) → length b ≤ f → k < length (picked (recordsFrom f b)) → Finds f b k
   unfolding recordsFrom picked r rs
@@ -150,6 +145,39 @@ node-found s k h =
     (nodesOf (recordsFrom (length s) s)) = ap length q in
     let w = found isNode (λ r rs. nodeOf r) (leafNode 0) (length s) s k (omega arith) (omega arith) in
     (w .0 ∙ ap (λ (xs : List Node). getD xs k (leafNode 0)) q, w .1)
+
+-- a node's record, and the record of the node that it says, have one kind
+kind-back : (r : Record) → isNode r ≡ true → recordOfNode (nodeOf r) .kind ≡ r .kind
+unfolding recordOfNode nodeOf
+kind-back r h =
+    at (is leafKind r) refl (is joinKind r) refl (is hideKind r) refl (is renameKind r) refl
+  where
+    at : (a : Bool) → is leafKind r ≡ a → (b : Bool) → is joinKind r ≡ b → (c : Bool) → is hideKind r ≡ c → (d : Bool)
+        → is renameKind r ≡ d → recordOfNode (nodeOf r) .kind ≡ r .kind
+    at true p b q c s d t = rw p (sym (eqb-true (r .kind) leafKind p))
+    at false p true q c s d t = rw (p, q) (sym (eqb-true (r .kind) joinKind q))
+    at false p false q true s d t = rw (p, q, s) (sym (eqb-true (r .kind) hideKind s))
+    at false p false q false s true t = rw (p, q, s) (sym (eqb-true (r .kind) renameKind t))
+    at false p false q false s false t =
+        let n : false ≡ true = rw (p, q, s, t) at h in absurd (true-not-false (sym n))
+
+-- the record where node k begins is of the node's kind, and stands within the file
+pub node-kind-found : (s : List ℕ) (k : ℕ) → k < length (fileModel s .nodes)
+    → recordAt s (nodePlace s k) .kind ≡ recordOfNode (getD (fileModel s .nodes) k (leafNode 0)) .kind
+node-kind-found s k h =
+    let w = node-found s k h in
+    sym (kind-back (recordAt s (nodePlace s k)) (w .1)) ∙ ap (λ (x : Node). recordOfNode x .kind) (w .0)
+
+pub node-inside : (s : List ℕ) (k : ℕ) → k < length (fileModel s .nodes) → nodePlace s k < length s
+unfolding recordAt firstRecord recordOf sizeOf bodyLength
+node-inside s k h = go (decLt (nodePlace s k) (length s))
+  where
+    go : Dec (nodePlace s k < length s) → nodePlace s k < length s
+    go (yes l) = l
+    go (no l) =
+        let none : isNode (recordAt s (nodePlace s k)) ≡ false =
+        ap (λ (b : List ℕ). isNode (firstRecord b)) (gone s (nodePlace s k) (omega arith)) in
+        absurd (true-not-false (sym (node-found s k h .1) ∙ none))
 
 -- where machine m begins stand its state count and, behind two bytes, its steps
 pub record MachineFound (s : List ℕ) (m : ℕ) : Type 0 where

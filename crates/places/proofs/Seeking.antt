@@ -8,12 +8,14 @@ use native.Mathlib.Omega.{arith}
 use lib.Dec.{eqb}
 use lib.ListN.{length, drop, length-drop, drop-of-length-le}
 use lib.Seq.{drop-drop, drop-cons}
+use borrow.Author.Tests.{ne-eqb}
 use Rattle.records.specs.declared.Record.{Record}
 use Rattle.records.specs.Kinds.{sizeOf}
 use Rattle.records.specs.Records.{otherRecord}
 use Rattle.decoding.specs.Bytes.{byte, firstRecord}
 use Rattle.decoding.proofs.Bytes.{first-kind}
 use Rattle.records.proofs.Sizes.{size-positive, size-most}
+use Rattle.records.proofs.Choices.{cond-true, cond-false}
 use Rattle.reader.specs.File.{recordsFrom, recordsOf}
 use Rattle.places.specs.Finding.{placeIn, sought}
 use Rattle.reader.proofs.Records.{none-left, records-next}
@@ -46,7 +48,7 @@ pub sought-kind : (nodes : Bool) (r : Record) (k : ℕ) → r .kind ≡ k → so
 sought-kind nodes r k e = ap (λ (x : ℕ). sought nodes (otherRecord x)) e
 
 -- placeIn by one record
-pub passed-by : (p : Record → Bool) (r : Record) (rs : List Record) (k : ℕ) → (p r && eqb k 0) ≡ false
+passed-by : (p : Record → Bool) (r : Record) (rs : List Record) (k : ℕ) → (p r && eqb k 0) ≡ false
     → placeIn p (r ∷ rs) k ≡ sizeOf (r .kind) + placeIn p rs (cond (p r) (k - 1) k)
 unfolding placeIn
 passed-by p r rs k q = go (p r) q
@@ -67,6 +69,19 @@ found-here p r rs k q = go (p r) (eqb k 0) q
     go true true q = refl
     go true false q = let w : _≡_ {A = ℕ} 0 1 = cc in absurd (omega arith)
     go false z q = let w : _≡_ {A = ℕ} 0 1 = cc in absurd (omega arith)
+
+pub place-behind : (p : Record → Bool) (r : Record) (rs : List Record) (k : ℕ) → p r ≡ false
+    → placeIn p (r ∷ rs) k ≡ sizeOf (r .kind) + placeIn p rs k
+unfolding placeIn
+place-behind p r rs k q = cond-false (p r) _ _ q
+
+pub place-next : (p : Record → Bool) (r : Record) (rs : List Record) (k : ℕ) → p r ≡ true
+    → placeIn p (r ∷ rs) (suc k) ≡ sizeOf (r .kind) + placeIn p rs k
+unfolding placeIn
+place-next p r rs k q =
+    let n : suc k - 1 ≡ k = omega arith in
+    cond-true (p r) _ _ q ∙ cond-false (eqb (suc k) 0) _ _ (ne-eqb (suc k) 0 (λ y. omega arith))
+    ∙ ap (λ (i : ℕ). sizeOf (r .kind) + placeIn p rs i) n
 
 -- seeking the record behind k others that p picks: `left` of them are still to be passed
 pub record Seeking (p : Record → Bool) (s : List ℕ) (k at left : ℕ) : Type 0 where
@@ -114,7 +129,8 @@ module _ (p : Record → Bool) (s : List ℕ) (k : ℕ) where
           }
 
 -- the same by the kind of the record at a place, which is the byte there
-module _ (nodes : Bool) (s : List ℕ) (k at left : ℕ) (i : Seeking (sought nodes) s k at left) (more : at < length s) where
+module _ (nodes : Bool) (s : List ℕ) (k at left : ℕ) (i : Seeking (sought nodes) s k at left)
+    (more : at < length s) where
   pub kind-found : (sought nodes (otherRecord (byte s at)) && eqb left 0) ≡ true
       → at ≡ placeIn (sought nodes) (recordsOf s) k
   kind-found q =

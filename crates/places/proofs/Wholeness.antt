@@ -1,13 +1,13 @@
 -- In a readable file every record is whole, and so are those behind any machine's record. Assumes nothing.
 use mathlib.Core.Path.{_≡_, refl, sym, ap, _∙_}
-use mathlib.Core.Bool.{Bool, true, false, cond}
+use mathlib.Core.Bool.{Bool, true, false}
 use mathlib.Core.List.{List, _∷_}
 use mathlib.Core.Logic.{_⊎_, inl, inr}
-use Prim.Native.Nat.{ℕ, zero, suc, _+_, _-_, _≤_, _<_}
+use Prim.Native.Nat.{ℕ, zero, suc, _+_, _≤_, _<_}
 use native.Mathlib.Omega.{arith}
 use lib.ListN.{length, drop, length-drop}
 use lib.Seq.{drop-drop}
-use borrow.Author.Tests.{eqb-true, ne-eqb}
+use borrow.Author.Tests.{eqb-true}
 use Rattle.records.specs.declared.Record.{Record}
 use Rattle.progress.specs.declared.Progress.{Progress}
 use Rattle.records.specs.Kinds.{bodyLength, sizeOf, machineKind, endKind, is}
@@ -22,7 +22,7 @@ use Rattle.places.specs.Finding.{placeIn}
 use Rattle.reader.proofs.Turns.{rest, Then, Turn, turn-out, turn-passed, turn-whole, none-finished}
 use Rattle.reader.proofs.Readings.{readable-out}
 use Rattle.reader.proofs.Records.{none-left, records-next, end-known}
-use Rattle.places.proofs.Seeking.{passed-by, found-here}
+use Rattle.places.proofs.Seeking.{found-here, place-behind, place-next}
 
 -- nothing is left, or a scan of the bytes b finishes
 pub Whole : List ℕ → Type 0
@@ -93,17 +93,12 @@ machine-whole (suc f) b k h w l =
         let c : machinesOf (r ∷ rs) ≡ record { states = r .number; steps = stepsOf rs } ∷ machinesOf rs =
         cond-true (is machineKind r) _ _ q in
         let len : length (machinesOf (r ∷ rs)) ≡ suc (length (machinesOf rs)) = ap length c in
-        let z = passed-by (is machineKind) r rs k (rw (q, e) (ne-eqb (suc j) 0 (λ x. omega arith))) in
-        let y : cond (is machineKind r) (k - 1) k ≡ j = cond-true (is machineKind r) (k - 1) k q ∙ omega arith in
-        later j (z ∙ ap (λ (i : ℕ). sizeOf (r .kind) + placeIn (is machineKind) rs i) y) (whole-next b w some .0)
-        (ih j (omega (arith, len)))
+        later j (ap (placeIn (is machineKind) (r ∷ rs)) e ∙ place-next (is machineKind) r rs j q)
+        (whole-next b w some .0) (ih j (omega (arith, len)))
     at some false q k′ e m ih =
         let c : machinesOf (r ∷ rs) ≡ machinesOf rs = cond-false (is machineKind r) _ _ q in
         let len : length (machinesOf (r ∷ rs)) ≡ length (machinesOf rs) = ap length c in
-        let z = passed-by (is machineKind) r rs k (rw q) in
-        let y : cond (is machineKind r) (k - 1) k ≡ k = cond-false (is machineKind r) (k - 1) k q in
-        later k (z ∙ ap (λ (i : ℕ). sizeOf (r .kind) + placeIn (is machineKind) rs i) y) (whole-next b w some .0)
-        (ih k (omega (arith, len, e)))
+        later k (place-behind (is machineKind) r rs k q) (whole-next b w some .0) (ih k (omega (arith, len, e)))
 
     go : (n : ℕ) → length b ≡ n
         → (0 < length b → (j : ℕ) → j < length (machinesOf rs) → Behind rs j (rest b)) → Behind

@@ -1,30 +1,28 @@
 -- What the analysis leaves in the area says the lists: no pair of a list is zero, so a section's entries before the
 -- first zero are its list, and the record where a node begins has the node's kind. Assumes nothing.
 use mathlib.Core.Path.{_≡_, refl, sym, ap, _∙_}
-use mathlib.Core.Bool.{Bool, true, false}
 use mathlib.Core.List.{List, [], _∷_, _++_, List·Memᴰ, List·Memᴰ·head, List·Memᴰ·tail}
 use Prim.Native.Nat.{ℕ, zero, suc, _+_, _-_, _≤_, _<_}
 use native.Mathlib.Omega.{arith}
 use lib.ListN.{length, take, drop, getD, take-append-drop}
 use lib.Seq.{take-append-seam}
-use borrow.Author.Tests.{eqb-true, ne-eqb}
-use Rattle.network.specs.Model.{leafNode, nodeNetwork, WellFormed}
+use borrow.Author.Tests.{ne-eqb}
+use Rattle.network.specs.Model.{Node, leafNode, joinNode, hideNode, renameNode, nodeNetwork, WellFormed}
 use Rattle.network.specs.Lists.{firstOf, secondOf, listOf}
 use Rattle.network.specs.Verdict.{Verdict, pass, inconclusive, refused, mostPairs, verdict}
 use Rattle.network.specs.Promise.{NodePasses}
 use Rattle.network.proofs.Lists.{list-is, list-unique}
 use Rattle.network.proofs.Listed.{never-empty}
 use Rattle.network.proofs.Nodes.{nodes-formed, nodes-clear}
-use Rattle.records.specs.declared.Record.{Record}
-use Rattle.records.specs.Kinds.{leafKind, joinKind, hideKind, renameKind, is, isNode}
 use Rattle.decoding.specs.Bytes.{AreBytes}
 use Rattle.reader.specs.declared.Reading.{Reading}
 use Rattle.reader.specs.declared.Reading.the-variants.{Readable, Unreadable}
 use Rattle.reader.specs.Scan.{readable, says, saidOf, readingOf}
-use Rattle.reader.specs.File.{nodeOf, fileModel}
+use Rattle.reader.specs.File.{fileModel}
+use Rattle.reader.specs.Encoding.{recordOfNode}
 use Rattle.places.specs.Finding.{nodePlace, recordAt}
 use Rattle.reader.proofs.Formed.{model-formed}
-use Rattle.places.proofs.Found.{node-found}
+use Rattle.places.proofs.Found.{node-kind-found}
 use Rattle.filling.specs.Building.{zeros}
 use Rattle.verdict.specs.Answers.{needed}
 use Rattle.analysis.specs.Analysis.{areaAfter}
@@ -52,27 +50,17 @@ in-turn-ext f g k (suc count) h =
     ap (λ (t : List ℕ). t ++ inTurn f (suc k) count) (h k (omega arith))
     ∙ ap (λ (t : List ℕ). g k ++ t) (in-turn-ext f g (suc k) count (λ i l. h i (omega arith)))
 
--- the kind of the node that a node's record says is the record's
-kind-of-record : (r : Record) → isNode r ≡ true → kindOf (nodeOf r) ≡ r .kind
-unfolding kindOf nodeOf
-kind-of-record r h =
-    at (is leafKind r) refl (is joinKind r) refl (is hideKind r) refl (is renameKind r) refl
-  where
-    at : (a : Bool) → is leafKind r ≡ a → (b : Bool) → is joinKind r ≡ b → (c : Bool) → is hideKind r ≡ c → (d : Bool)
-        → is renameKind r ≡ d → kindOf (nodeOf r) ≡ r .kind
-    at true p b q c s d t = rw p (sym (eqb-true (r .kind) leafKind p))
-    at false p true q c s d t = rw (p, q) (sym (eqb-true (r .kind) joinKind q))
-    at false p false q true s d t = rw (p, q, s) (sym (eqb-true (r .kind) hideKind s))
-    at false p false q false s true t = rw (p, q, s) (sym (eqb-true (r .kind) renameKind t))
-    at false p false q false s false t =
-        let n : false ≡ true = rw (p, q, s, t) at h in
-        let z : _≡_ {A = ℕ} 0 1 = cc in absurd (omega arith)
+-- a node is printed by its record's kind
+pub node-kind : (x : Node) → recordOfNode x .kind ≡ kindOf x
+unfolding recordOfNode kindOf
+node-kind (leafNode i) = refl
+node-kind (joinNode i j A) = refl
+node-kind (hideNode i A) = refl
+node-kind (renameNode i f) = refl
 
 pub kind-found : (s : List ℕ) (k : ℕ) → k < length (fileModel s .nodes)
     → recordAt s (nodePlace s k) .kind ≡ kindOf (getD (fileModel s .nodes) k (leafNode 0))
-kind-found s k h =
-    let found = node-found s k h in
-    sym (kind-of-record (recordAt s (nodePlace s k)) (found .1)) ∙ ap kindOf (found .0)
+kind-found s k h = node-kind-found s k h ∙ node-kind (getD (fileModel s .nodes) k (leafNode 0))
 
 -- after a pass: a node's text from the file and the area is its text
 module _ (s area : List ℕ) (y : AreBytes s) (e : says s ≡ readable) (room : needed (fileModel s) ≤ length area) (b : ℕ)
