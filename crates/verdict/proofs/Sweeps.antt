@@ -3,7 +3,7 @@
 use mathlib.Core.Path.{_≡_, sym, ap, _∙_}
 use mathlib.Core.Bool.{Bool, true, false}
 use mathlib.Core.List.{List}
-use Prim.Native.Nat.{ℕ, _+_, _*_, _≤_, _<_}
+use Prim.Native.Nat.{ℕ, suc, _+_, _*_, _≤_, _<_}
 use native.Mathlib.Omega.{arith}
 use lib.ListN.{length, set, replicate}
 use Rattle.network.specs.Model.{networks, nodeNetwork, bound}
@@ -11,12 +11,16 @@ use Rattle.network.specs.Lists.{listOf, flagOf}
 use Rattle.network.specs.Verdict.{mostPairs, operandEmpty, verdict}
 use Rattle.network.proofs.Nodes.{networks-length}
 use Rattle.records.specs.declared.Record.{Record}
+use Rattle.records.specs.Kinds.{sizeOf}
+use Rattle.records.proofs.Sizes.{size-most}
 use Rattle.decoding.specs.Bytes.{AreBytes}
 use Rattle.tests.specs.FirstHit.{refusal}
 use Rattle.reader.specs.Scan.{readable, says}
 use Rattle.reader.specs.File.{fileModel}
 use Rattle.places.specs.Finding.{nodePlace, recordAt}
 use Rattle.reader.proofs.Formed.{model-formed}
+use Rattle.places.proofs.Found.{node-inside}
+use Rattle.places.proofs.Next.{next-node}
 use Rattle.places.proofs.Multiplying.{short}
 use Rattle.verdict.specs.declared.Answer.{Answer}
 use Rattle.verdict.specs.declared.Answer.the-variants.{Pass, Inconclusive, Refused}
@@ -29,21 +33,22 @@ use Rattle.verdict.proofs.Passing.{same-length}
 use Rattle.verdict.proofs.AtNode.{AtNode, placed-there, at-node}
 use Rattle.verdict.proofs.PairLoops.{SwallowSought, swallow-end}
 
--- the loop over the nodes of the file s has come to node k
-pub record Sweeping (s : List ℕ) (n nodes : ℕ) (area₀ : List ℕ) (k : ℕ) (area counts : List ℕ) : Type 0 where
+-- the loop over the nodes of the file s has come to node k; if there is one, it begins at the place
+pub record Sweeping (s : List ℕ) (n nodes : ℕ) (area₀ : List ℕ) (k place : ℕ) (area counts : List ℕ) : Type 0 where
   pub bytes-are : AreBytes s
   pub read : says s ≡ readable
   pub events-are : n ≡ fileModel s .events
   pub nodes-are : nodes ≡ length (fileModel s .nodes)
   pub room : mostPairs * nodes ≤ length area₀
   pub upto : k ≤ nodes
+  pub placed : k < nodes → place ≡ nodePlace s k
   pub passing : Passing (fileModel s) area₀ k area counts
 
 pub sweep-starts : (s : List ℕ) (n nodes : ℕ) (area : List ℕ) → AreBytes s
     → (says s ≡ readable) × (n ≡ fileModel s .events) × (nodes ≡ length (fileModel s .nodes))
-    × (mostPairs * nodes ≤ length area)
-    → Sweeping s n nodes area 0 area (replicate 32 0)
-sweep-starts s n nodes area y w =
+    × (mostPairs * nodes ≤ length area) → (place : ℕ) → place ≡ nodePlace s 0
+    → Sweeping s n nodes area 0 place area (replicate 32 0)
+sweep-starts s n nodes area y w place e =
     record {
       bytes-are = y;
       read = w .0;
@@ -51,6 +56,7 @@ sweep-starts s n nodes area y w =
       nodes-are = w .2;
       room = w .3;
       upto = omega arith;
+      placed = λ h. e;
       passing = pass-start (fileModel s) area;
     }
 
@@ -58,11 +64,8 @@ sweep-starts s n nodes area y w =
 abbrev pub Comes : List ℕ → List ℕ → Answer → List ℕ → Type 0
 Comes s area₀ r area = (r ≡ answerFor (verdict (fileModel s))) × Swept (fileModel s) (verdict (fileModel s)) area₀ area
 
-module _ (s : List ℕ) (n nodes : ℕ) (area₀ : List ℕ) (k : ℕ) (area counts : List ℕ)
-    (w : Sweeping s n nodes area₀ k area counts) where
-  pub short-file : length s ≤ 4096
-  short-file = short s (w .bytes-are) (w .read)
-
+module _ (s : List ℕ) (n nodes : ℕ) (area₀ : List ℕ) (k place : ℕ) (area counts : List ℕ)
+    (w : Sweeping s n nodes area₀ k place area counts) where
   room-there : mostPairs * length (fileModel s .nodes) ≤ length area₀
   room-there = omega (arith, w .room, w .nodes-are)
 
@@ -81,9 +84,14 @@ module _ (s : List ℕ) (n nodes : ℕ) (area₀ : List ℕ) (k : ℕ) (area cou
     here : k < length (fileModel s .nodes)
     here = omega (arith, w .nodes-are)
 
-    module _ (r : Record) (place : ℕ) (er : r ≡ recordAt s place) (ep : place ≡ nodePlace s k) where
+    -- no record's end is beyond the machine's numbers
+    pub place-fits : (kind size : ℕ) → size ≡ sizeOf kind → place + size ≤ 4114
+    place-fits kind size e =
+        omega (arith, w .placed h, node-inside s k here, short s (w .bytes-are) (w .read), e, size-most kind)
+
+    module _ (r : Record) (er : r ≡ recordAt s place) where
       record-is : r ≡ recordAt s (nodePlace s k)
-      record-is = er ∙ ap (λ (x : ℕ). recordAt s x) ep
+      record-is = er ∙ ap (λ (x : ℕ). recordAt s x) (w .placed h)
 
       pub sweep-placed : Placed r 32
       sweep-placed =
@@ -93,6 +101,14 @@ module _ (s : List ℕ) (n nodes : ℕ) (area₀ : List ℕ) (k : ℕ) (area cou
       sweep-at =
           at-node s (w .bytes-are) (w .read) n (w .events-are) area₀ k area counts (w .passing) here r record-is
           room-there
+
+      -- behind the record of node k stands the next
+      next-placed : (size : ℕ) → size ≡ sizeOf (r .kind) → k + 1 < nodes → place + size ≡ nodePlace s (k + 1)
+      next-placed size e l =
+          let q : suc k ≡ k + 1 = omega arith in
+          let size-is = e ∙ ap (λ (x : Record). sizeOf (x .kind)) record-is in
+          let next = next-node s (w .bytes-are) (w .read) k (omega (arith, w .nodes-are)) in
+          omega (arith, w .placed h, size-is, next) ∙ ap (nodePlace s) q
 
     -- 12, and the flag
     pub sweep-empty : (x : Answer) → x ≡ Refused (refusal 12 k)
@@ -119,8 +135,9 @@ module _ (s : List ℕ) (n nodes : ℕ) (area₀ : List ℕ) (k : ℕ) (area cou
           (stop-over (fileModel s) area₀ k area counts (w .passing) long here room-there (a .no-empty) quiet
           (sym (built .over-exactly) ∙ q))
 
-      pub sweep-on : over ≡ false → Sweeping s n nodes area₀ (k + 1) area′ (set counts k count)
-      sweep-on q =
+      pub sweep-on : over ≡ false → r ≡ recordAt s place → (size : ℕ) → size ≡ sizeOf (r .kind)
+          → Sweeping s n nodes area₀ (k + 1) (place + size) area′ (set counts k count)
+      sweep-on q er size es =
           record {
             bytes-are = w .bytes-are;
             read = w .read;
@@ -128,6 +145,7 @@ module _ (s : List ℕ) (n nodes : ℕ) (area₀ : List ℕ) (k : ℕ) (area cou
             nodes-are = w .nodes-are;
             room = w .room;
             upto = omega arith;
+            placed = next-placed r er size es;
             passing =
                 go-on (fileModel s) area₀ k area counts (w .passing) long here room-there (a .seen .few) (a .no-empty)
                 quiet count area′ (rw q at built);

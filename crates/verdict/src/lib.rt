@@ -75,7 +75,7 @@ fn is_swallowed(x: u32, set: u32) -> bool
     f.is_included(EventSet { bits: set })
 }
 
-// The pass over the nodes of a readable file; what a stop leaves in the sections its caller clears.
+// The pass over the nodes of a readable file, one behind another; what a stop leaves in the sections its caller clears.
 pub fn sweep(bytes: &[u8], n: u32, nodes: u32, area: &mut [u32]) -> Answer
     requires { ⌜
         (says (now bytes) ≡ readable) × (n ≡ fileModel (now bytes) .events)
@@ -88,6 +88,7 @@ pub fn sweep(bytes: &[u8], n: u32, nodes: u32, area: &mut [u32]) -> Answer
         ⌝ }
 {
     let mut counts = [0usize; 32];
+    let mut place = places::node_place(bytes, 0);
     let mut k: u32 = 0;
     let v = 'nodes: loop {
         if nodes <= k {
@@ -95,7 +96,7 @@ pub fn sweep(bytes: &[u8], n: u32, nodes: u32, area: &mut [u32]) -> Answer
                 bound: places::bound_of(bytes),
             });
         }
-        let r = places::record_at(bytes, places::node_place(bytes, k));
+        let r = places::record_at(bytes, place);
         let o = nodes::operands_of(r, &counts);
         let pairs = o.lefts + o.rights;
         let mut i = 0;
@@ -122,6 +123,7 @@ pub fn sweep(bytes: &[u8], n: u32, nodes: u32, area: &mut [u32]) -> Answer
             break 'nodes refused_at(11, k);
         }
         counts[k as usize] = t.count;
+        place = place + records::size_of(r.kind);
         k += 1;
     };
     v
