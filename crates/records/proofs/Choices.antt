@@ -23,16 +23,9 @@ pub or-none : (a b : Bool) → (a || b) ≡ false → (a ≡ false) × (b ≡ fa
 or-none false b q = (refl, q)
 or-none true b q = absurd (true-not-false q)
 
-pub none-or : (a b : Bool) → a ≡ false → b ≡ false → (a || b) ≡ false
-none-or a b p q = rw p q
-
 pub or-false : (b : Bool) → (b || false) ≡ b
 or-false true = refl
 or-false false = refl
-
-pub or-true : (b : Bool) → (b || true) ≡ true
-or-true true = refl
-or-true false = refl
 
 pub or-assoc : (a b c : Bool) → ((a || b) || c) ≡ (a || (b || c))
 or-assoc true b c = refl
@@ -43,16 +36,9 @@ pub and-none : (a b : Bool) → (a && b) ≡ false → a ≡ true → b ≡ fals
 and-none true b q p = q
 and-none false b q p = absurd (true-not-false (let z : true ≡ false = cc in z))
 
-pub none-and : (a b : Bool) → a ≡ false → (a && b) ≡ false
-none-and a b p = rw p
-
 pub true-yes : (b : Bool) → b ≡ true → T b
 true-yes true q = tt
 true-yes false q = absurd (true-not-false (let z : true ≡ false = cc in z))
-
-pub false-no : (b : Bool) → b ≡ false → T b → ⊥
-false-no false q t = t
-false-no true q t = true-not-false q
 
 pub digit-most : (b : Bool) → digit b ≤ 1
 digit-most true = omega arith
@@ -77,10 +63,3 @@ or-none6 a b c d e f q =
 pub and-none-left : (a b : Bool) → (a && b) ≡ false → b ≡ true → a ≡ false
 and-none-left true b q p = absurd (true-not-false (sym p ∙ q))
 and-none-left false b q p = refl
-
-pub none6-or : (a b c d e f : Bool) → a ≡ false → b ≡ false → c ≡ false → d ≡ false → e ≡ false → f ≡ false
-    → (a || b || c || d || e || f) ≡ false
-none6-or a b c d e f p q r s t u = rw (p, q, r, s, t, u)
-
-pub none4-or : (a b c d : Bool) → a ≡ false → b ≡ false → c ≡ false → d ≡ false → (a || b || c || d) ≡ false
-none4-or a b c d p q r s = rw (p, q, r, s)

@@ -77,13 +77,6 @@ module _ (g : Progress) (r : Record) (left : ℕ) where
   unfolding firstHit
   hit-cut a b = cond-false (badKind r) _ _ a ∙ cond-true (cutShort r left) _ _ b
 
-  -- a record that passed with fewer bytes left, and whose end is bad with these
-  pub hit-end : (fewer : ℕ) → Passed g r fewer → cutShort r left ≡ false → badEnd g r left ≡ true
-      → firstHit g r left ≡ 9
-  hit-end fewer p b e =
-      last-test (p .kind-known) b (p .placed) (p .few) (p .ranged) (p .operands-free) (p .above) (p .eight-events)
-      ∙ cond-true (badEnd g r left) 9 0 e
-
   -- whether a record passes depends on the bytes left by the tests 2 and 9 alone
   pub pass-with : (other : ℕ) → Passed g r other → cutShort r left ≡ false → badEnd g r left ≡ false
       → firstHit g r left ≡ 0
