@@ -2,7 +2,7 @@
 -- Assumes nothing.
 use mathlib.Core.Path.{_≡_}
 use mathlib.Core.List.{List}
-use Prim.Native.Nat.{ℕ, _-_}
+use Prim.Native.Nat.{ℕ}
 use Rattle.events.proofs.Unique.{settled}
 use Rattle.records.specs.declared.Record.{Record}
 use Rattle.decoding.specs.Bytes.{byte, two, targetsIn, recordOf, firstRecord}
