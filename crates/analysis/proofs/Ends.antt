@@ -1,6 +1,7 @@
 -- The answer and the area at the end: without room, after a pass, after a stop, and for a file that is not readable.
 -- Assumes nothing.
 use mathlib.Core.Path.{_≡_, refl, sym, ap, _∙_}
+use mathlib.Core.Bool.{true, false}
 use mathlib.Core.List.{List, _++_}
 use Prim.Native.Nat.{ℕ, _*_, _≤_, _<_}
 use native.Mathlib.Omega.{arith}
@@ -9,6 +10,7 @@ use lib.Seq.{length-take-le}
 use borrow.Author.Tests.{lt-ltb, le-ltb}
 use Rattle.network.specs.Model.{Model}
 use Rattle.network.specs.Verdict.{Verdict, pass, inconclusive, refused, verdict}
+use Rattle.records.proofs.Choices.{true-not-false}
 use Rattle.progress.specs.declared.Progress.{Progress}
 use Rattle.tests.specs.declared.Refusal.{Refusal}
 use Rattle.tests.specs.FirstHit.{refusal}
@@ -21,21 +23,22 @@ use Rattle.verdict.specs.declared.Answer.{Answer}
 use Rattle.verdict.specs.declared.Answer.the-variants.{Pass, Inconclusive, Refused}
 use Rattle.verdict.specs.declared.Passed.{Passed}
 use Rattle.verdict.specs.Answers.{answerFor, needed, sectionsFor}
-use Rattle.analysis.specs.Analysis.{passOf, sectionsAfter, answerAt, areaAt}
+use Rattle.analysis.specs.Analysis.{isPass, passOf, sectionsAfter, answerAt, areaAt}
 use Rattle.analysis.specs.Analysis.{analysisOf, areaAfter}
 use Rattle.verdict.specs.Sweeping.{BehindKept, Swept}
 
--- an answer that is not a pass
-abbrev pub IsStop : Answer → Type 0
-IsStop (Pass p) = ⊥
-IsStop (Inconclusive k) = Unit {0}
-IsStop (Refused f) = Unit {0}
+-- whether an answer is a pass, by its variant
+pub pass-is : (r : Answer) (p : Passed) → r ≡ Pass p → true ≡ isPass r
+unfolding isPass
+pass-is r p e = rw e refl
 
-pub stops-inconclusive : (r : Answer) (k : ℕ) → r ≡ Inconclusive k → IsStop r
-stops-inconclusive r k e = rw e tt
+pub inconclusive-is : (r : Answer) (k : ℕ) → r ≡ Inconclusive k → false ≡ isPass r
+unfolding isPass
+inconclusive-is r k e = rw e refl
 
-pub stops-refused : (r : Answer) (f : Refusal) → r ≡ Refused f → IsStop r
-stops-refused r f e = rw e tt
+pub refused-is : (r : Answer) (f : Refusal) → r ≡ Refused f → false ≡ isPass r
+unfolding isPass
+refused-is r f e = rw e refl
 
 pub need-is : (M : Model) (nodes : ℕ) → nodes ≡ length (M .nodes) → 256 * nodes ≡ needed M
 unfolding needed
@@ -53,28 +56,28 @@ module _ (M : Model) (area : List ℕ) where
   unfolding passOf sectionsAfter
   has-room h r area′ e f = rw (le-ltb (length area) (needed M) h) (e, f)
 
-  swept-pass : (area′ : List ℕ) (p : Passed) (v : Verdict) → Pass p ≡ answerFor v → Swept M v area area′
+  swept-pass : (area′ : List ℕ) (r : Answer) (v : Verdict) → isPass r ≡ true → r ≡ answerFor v → Swept M v area area′
       → area′ ≡ sectionsFor M v ++ drop (needed M) area
-  unfolding answerFor Swept sectionsFor
-  swept-pass area′ p (pass b) e w = w
-  swept-pass area′ p (inconclusive k) e w = let z : _≡_ {A = ℕ} 0 1 = cc in absurd (omega arith)
-  swept-pass area′ p (refused i k) e w = let z : _≡_ {A = ℕ} 0 1 = cc in absurd (omega arith)
+  unfolding answerFor Swept sectionsFor isPass
+  swept-pass area′ r (pass b) h e w = w
+  swept-pass area′ r (inconclusive k) h e w = absurd (true-not-false (sym (rw e at h)))
+  swept-pass area′ r (refused i k) h e w = absurd (true-not-false (sym (rw e at h)))
 
-  swept-stop : (area′ : List ℕ) (r : Answer) (v : Verdict) → IsStop r → r ≡ answerFor v → Swept M v area area′
+  swept-stop : (area′ : List ℕ) (r : Answer) (v : Verdict) → isPass r ≡ false → r ≡ answerFor v → Swept M v area area′
       → (sectionsFor M v ≡ zeros (needed M)) × BehindKept M area area′
-  unfolding answerFor Swept sectionsFor
-  swept-stop area′ r (pass b) h e w = absurd (rw e at h)
+  unfolding answerFor Swept sectionsFor isPass
+  swept-stop area′ r (pass b) h e w = absurd (true-not-false (rw e at h))
   swept-stop area′ r (inconclusive k) h e w = (refl, w)
   swept-stop area′ r (refused i k) h e w = (refl, w)
 
   -- after a pass
-  pub ends-pass : needed M ≤ length area → (r : Answer) (p : Passed) (area′ : List ℕ) → r ≡ Pass p
+  pub ends-pass : needed M ≤ length area → (r : Answer) (area′ : List ℕ) → isPass r ≡ true
       → r ≡ answerFor (verdict M) → Swept M (verdict M) area area′
       → (r ≡ passOf M area) × (area′ ≡ sectionsAfter M area)
-  ends-pass h r p area′ q e w = has-room h r area′ e (swept-pass area′ p (verdict M) (sym q ∙ e) w)
+  ends-pass h r area′ q e w = has-room h r area′ e (swept-pass area′ r (verdict M) q e w)
 
   -- after a stop, with the sections cleared
-  pub ends-stop : needed M ≤ length area → (r : Answer) (part area′ : List ℕ) (n : ℕ) → IsStop r
+  pub ends-stop : needed M ≤ length area → (r : Answer) (part area′ : List ℕ) (n : ℕ) → isPass r ≡ false
       → r ≡ answerFor (verdict M) → Swept M (verdict M) area area′ → n ≡ needed M
       → part ≡ zeros (length (take n area′))
       → (r ≡ passOf M area) × (part ++ drop n area′ ≡ sectionsAfter M area)

@@ -1,6 +1,6 @@
 -- What the analysis of a file answers, and the working area that it leaves, for every input. Document 01, "Refusal
 -- numbers" and the working area. Assumes nothing.
-use mathlib.Core.Bool.{cond}
+use mathlib.Core.Bool.{Bool, true, false, cond}
 use mathlib.Core.List.{List, _++_}
 use Prim.Native.Nat.{ℕ}
 use lib.Dec.{ltb}
@@ -13,8 +13,14 @@ use Rattle.reader.specs.declared.Reading.the-variants.{Readable, Unreadable}
 use Rattle.reader.specs.Scan.{readingOf}
 use Rattle.reader.specs.File.{fileModel}
 use Rattle.verdict.specs.declared.Answer.{Answer}
-use Rattle.verdict.specs.declared.Answer.the-variants.{Refused}
+use Rattle.verdict.specs.declared.Answer.the-variants.{Pass, Inconclusive, Refused}
 use Rattle.verdict.specs.Answers.{answerFor, needed, sectionsFor}
+
+-- whether an answer is a pass
+unfoldable pub isPass : Answer → Bool
+isPass (Pass p) = true
+isPass (Inconclusive k) = false
+isPass (Refused f) = false
 
 -- the answer on a readable file's model M with a lent area: 13 where it is too short, else the verdict
 unfoldable pub passOf : Model → List ℕ → Answer

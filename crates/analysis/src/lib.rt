@@ -4,7 +4,7 @@ ghost use lib.ListN.{length};
 ghost use Rattle.reader.specs.Scan.{readable, says};
 ghost use Rattle.reader.specs.File.{fileModel};
 ghost use Rattle.filling.specs.Building.{zeros};
-ghost use Rattle.analysis.specs.Analysis.{analysisOf, areaAfter, passOf, sectionsAfter};
+ghost use Rattle.analysis.specs.Analysis.{analysisOf, areaAfter, isPass, passOf, sectionsAfter};
 use reader::Reading;
 use tests::Refusal;
 use verdict::Answer;
@@ -17,6 +17,17 @@ fn clear(part: &mut [u32])
     while i < part.len() {
         part[i] = 0;
         i += 1;
+    }
+}
+
+// Whether the answer is a pass.
+fn is_pass(a: Answer) -> bool
+    ensures { λ r. ⌜ r ≡ isPass a ⌝ }
+{
+    match a {
+        Answer::Pass(_) => true,
+        Answer::Inconclusive(_) => false,
+        Answer::Refused(_) => false,
     }
 }
 
@@ -35,11 +46,10 @@ fn pass_over(bytes: &[u8], nodes: u32, area: &mut [u32]) -> Answer
     }
     let header = places::record_at(bytes, 0);
     let v = verdict::sweep(bytes, header.number, nodes, area);
-    match v {
-        Answer::Pass(_) => {}
-        Answer::Inconclusive(_) => clear(&mut area[..need]),
-        Answer::Refused(_) => clear(&mut area[..need]),
+    if is_pass(v) {
+        return v;
     }
+    clear(&mut area[..need]);
     v
 }
 

@@ -7,7 +7,7 @@ use Rattle.reader.specs.File.{fileModel}
 use Rattle.reader.proofs.Size.{size-limits}
 use Rattle.places.proofs.Multiplying.{bytes-in}
 use Rattle.analysis.proofs.Counted.{events-are}
-use Rattle.analysis.proofs.Ends.{need-is, no-room, ends-pass, ends-stop, stops-inconclusive, stops-refused}
+use Rattle.analysis.proofs.Ends.{need-is, no-room, ends-pass, ends-stop}
 use borrow.Author.Needs.{needs}
 use Rattle.analysis.proofs.pass_over.Statement.{statement}
 use Rattle.analysis.proofs.pass_over.Tie as tie
@@ -35,96 +35,48 @@ sweep-requires c κs = let g = c .before .before .before .before .before .args i
       omega (arith, c .before .before .if1 .left),
     )
 
-enum-told : tie.Need-enum-told
-enum-told c = search needs
+is-pass-requires : tie.Need-is-pass-requires
+is-pass-requires c κs = search needs
 
-enum-told-2 : tie.Need-enum-told-2
-enum-told-2 c = search needs
+same-length : tie.Need-same-length
+same-length c = search needs
+
+returns-2 : tie.Need-returns-2
+returns-2 c =
+    let room = c .before .before .before .before .before .before .before in
+    let entry = room .before .before .before in
+    let g = entry .args in
+    let w = c .before .before .before .before .sweep in
+    let need = need-is (fileModel (g .bytes .now)) (g .nodes) (entry .pre .1) in
+    ends-pass (fileModel (g .bytes .now)) (g .area .now) (omega (arith, need, room .if1 .left)) _ _
+    (sym (c .before .is-pass .ensures) ∙ c .if2 .taken) (w .ensures .0) (w .ensures .1)
 
 slice-relend-prefix-clear : tie.Need-slice-relend-prefix-clear
 slice-relend-prefix-clear c = search needs
 
 slice-aggregate-clear : tie.Need-slice-aggregate-clear
 slice-aggregate-clear c =
-    sym (length-take-le _ _
-    (omega (
-      arith,
-      c .before .before .before .before .area .given,
-      c .before .before .before .before .before .before .before .before .if1 .left,
-    )))
+    let swept = c .before .before .before .before in
+    let room = swept .before .before .before .before in
+    sym (length-take-le _ _ (omega (arith, swept .area .given, room .if1 .left)))
 
 clear-requires : tie.Need-clear-requires
 clear-requires c κs = search needs
-
-enum-told-3 : tie.Need-enum-told-3
-enum-told-3 c = search needs
-
-slice-relend-prefix-clear-2 : tie.Need-slice-relend-prefix-clear-2
-slice-relend-prefix-clear-2 c = search needs
-
-slice-aggregate-clear-2 : tie.Need-slice-aggregate-clear-2
-slice-aggregate-clear-2 c =
-    sym (length-take-le _ _
-    (omega (
-      arith,
-      c .before .before .before .before .area .given,
-      c .before .before .before .before .before .before .before .before .if1 .left,
-    )))
-
-clear-requires-2 : tie.Need-clear-requires-2
-clear-requires-2 c κs = search needs
-
-same-length : tie.Need-same-length
-same-length c = search needs
-
-returns-2 : tie.Need-returns-2
-returns-2 c = let g = c .before .before .before .before .before .before .before .before .before .before .args in
-    let w = c .before .before .before .before .sweep in
-    let need = need-is (fileModel (g .bytes .now)) (g .nodes)
-    (c .before .before .before .before .before .before .before .before .before .before .pre .1) in
-    ends-pass (fileModel (g .bytes .now)) (g .area .now)
-    (omega (arith, need, c .before .before .before .before .before .before .before .if1 .left)) _ _ _
-    (c .enum-told .given .1) (w .ensures .0) (w .ensures .1)
 
 same-length-2 : tie.Need-same-length-2
 same-length-2 c = search needs
 
 returns-3 : tie.Need-returns-3
 returns-3 c =
-    let g = c .before .before .before .before .before .before .before .before .before .before .before .before
-    .before .before .args in
-    let w = c .before .before .before .before .before .before .before .before .sweep in
-    let need = need-is (fileModel (g .bytes .now)) (g .nodes)
-    (c .before .before .before .before .before .before .before .before .before .before .before .before .before
-    .before .pre .1) in
-    ends-stop (fileModel (g .bytes .now)) (g .area .now)
-    (omega (
-      arith,
-      need,
-      c .before .before .before .before .before .before .before .before .before .before .before .if1 .left,
-    )) _ _ _
-    (256 * g .nodes) (stops-inconclusive _ _ (c .before .before .before .before .enum-told2 .given .1)) (w .ensures .0)
-    (w .ensures .1) need (c .before .before .clear .ensures)
-
-same-length-3 : tie.Need-same-length-3
-same-length-3 c = search needs
-
-returns-4 : tie.Need-returns-4
-returns-4 c =
-    let g = c .before .before .before .before .before .before .before .before .before .before .before .before
-    .before .before .args in
-    let w = c .before .before .before .before .before .before .before .before .sweep in
-    let need = need-is (fileModel (g .bytes .now)) (g .nodes)
-    (c .before .before .before .before .before .before .before .before .before .before .before .before .before
-    .before .pre .1) in
-    ends-stop (fileModel (g .bytes .now)) (g .area .now)
-    (omega (
-      arith,
-      need,
-      c .before .before .before .before .before .before .before .before .before .before .before .if1 .left,
-    )) _ _ _
-    (256 * g .nodes) (stops-refused _ _ (c .before .before .before .before .enum-told3 .given .1)) (w .ensures .0)
-    (w .ensures .1) need (c .before .before .clear2 .ensures)
+    let stopped = c .before .before .before .before in
+    let room = stopped .before .before .before .before .before .before .before in
+    let entry = room .before .before .before in
+    let g = entry .args in
+    let w = stopped .before .before .before .before .sweep in
+    let need = need-is (fileModel (g .bytes .now)) (g .nodes) (entry .pre .1) in
+    ends-stop (fileModel (g .bytes .now)) (g .area .now) (omega (arith, need, room .if1 .left)) _ _ _
+    (256 * g .nodes) (sym (stopped .before .is-pass .ensures) ∙ stopped .if2 .left) (w .ensures .0) (w .ensures .1)
+    need (c .before .before .clear .ensures)
 
 pub pass-over-spec : {M : Type 1} → statement M
 pass-over-spec =
@@ -134,18 +86,11 @@ pass-over-spec =
     returns
     record-at-requires
     sweep-requires
-    enum-told
-    enum-told-2
+    is-pass-requires
+    same-length
+    returns-2
     slice-relend-prefix-clear
     slice-aggregate-clear
     clear-requires
-    enum-told-3
-    slice-relend-prefix-clear-2
-    slice-aggregate-clear-2
-    clear-requires-2
-    same-length
-    returns-2
     same-length-2
-    returns-3
-    same-length-3
-    returns-4)
+    returns-3)
