@@ -90,7 +90,7 @@ pub fn sweep(bytes: &[u8], n: u32, nodes: u32, area: &mut [u32]) -> Answer
     let mut counts = [0usize; 32];
     let mut place = places::node_place(bytes, 0);
     let mut k: u32 = 0;
-    let v = 'nodes: loop {
+    'nodes: loop {
         if nodes <= k {
             break Answer::Pass(Passed {
                 bound: places::bound_of(bytes),
@@ -125,6 +125,5 @@ pub fn sweep(bytes: &[u8], n: u32, nodes: u32, area: &mut [u32]) -> Answer
         counts[k as usize] = t.count;
         place = place + records::size_of(r.kind);
         k += 1;
-    };
-    v
+    }
 }
