@@ -21,7 +21,8 @@ use Rattle.network.specs.Verdict.{pass, inconclusive, refused, mostPairs, opera
 use Rattle.network.specs.Verdict.{verdict}
 use Rattle.tests.specs.FirstHit.{refusal}
 use Rattle.filling.specs.Building.{padded}
-use Rattle.verdict.specs.declared.Answer.the-variants.{Pass, Inconclusive, Refused}
+use Rattle.verdict.specs.declared.Answer.{Answer}
+use Rattle.verdict.specs.declared.Answer.the-variants.{Inconclusive, Refused}
 use Rattle.verdict.specs.Answers.{answerFor, needed, sectionsOf}
 use Rattle.verdict.specs.Sweeping.{Swept}
 use Rattle.nodes.specs.Nodes.{Built}
@@ -92,10 +93,10 @@ module _ (M : Model) (area₀ : List ℕ) (k : ℕ) (area counts : List ℕ) (P 
       ∙ drop-drop (mostPairs * n - mostPairs * k) (mostPairs * k) area₀ ∙ ap (λ (m : ℕ). drop m area₀) r
 
   -- all nodes are through: a pass
-  pub pass-ends : length (networks M) ≡ length (M .nodes) → length (M .nodes) ≤ k → (b : ℕ) → b ≡ bound M
-      → (Pass (record { bound = b }) ≡ answerFor (verdict M)) × Swept M (verdict M) area₀ area
-  unfolding answerFor Swept verdictFrom needed
-  pass-ends l h b e =
+  pub pass-ends : length (networks M) ≡ length (M .nodes) → length (M .nodes) ≤ k → (r : Answer)
+      → r ≡ answerFor (pass (bound M)) → (r ≡ answerFor (verdict M)) × Swept M (verdict M) area₀ area
+  unfolding Swept verdictFrom needed
+  pass-ends l h r e =
       let q : k ≡ length (networks M) = omega (arith, P .upto) in
       let m : length (M .nodes) ≡ k = omega (arith, P .upto) in
       let v : verdict M ≡ pass (bound M) =
@@ -103,8 +104,8 @@ module _ (M : Model) (area₀ : List ℕ) (k : ℕ) (area counts : List ℕ) (P 
       ∙ ap (verdictFrom (M .events) (bound M) k) (drop-all (networks M)) in
       let t : take k (networks M) ≡ networks M =
       ap (λ (x : ℕ). take x (networks M)) q ∙ take-length (networks M) in
-      rw (v, e, m) (
-        refl,
+      rw (v, m) (
+        e,
         P .whole ∙ ap
             (λ (ts : List Network). sectionsOf (M .events) ts ++ drop (mostPairs * k) area₀) t,
       )

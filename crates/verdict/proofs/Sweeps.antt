@@ -8,7 +8,7 @@ use native.Mathlib.Omega.{arith}
 use lib.ListN.{length, set, replicate}
 use Rattle.network.specs.Model.{networks, nodeNetwork, bound}
 use Rattle.network.specs.Lists.{listOf, flagOf}
-use Rattle.network.specs.Verdict.{mostPairs, operandEmpty, verdict}
+use Rattle.network.specs.Verdict.{pass, mostPairs, operandEmpty, verdict}
 use Rattle.network.proofs.Nodes.{networks-length}
 use Rattle.records.specs.declared.Record.{Record}
 use Rattle.records.specs.Kinds.{sizeOf}
@@ -23,7 +23,7 @@ use Rattle.places.proofs.Found.{node-inside}
 use Rattle.places.proofs.Next.{next-node}
 use Rattle.places.proofs.Multiplying.{short}
 use Rattle.verdict.specs.declared.Answer.{Answer}
-use Rattle.verdict.specs.declared.Answer.the-variants.{Pass, Inconclusive, Refused}
+use Rattle.verdict.specs.declared.Answer.the-variants.{Inconclusive, Refused}
 use Rattle.nodes.specs.declared.Operands.{Operands}
 use Rattle.verdict.specs.Answers.{answerFor}
 use Rattle.verdict.specs.Sweeping.{Swept}
@@ -76,9 +76,9 @@ module _ (s : List ℕ) (n nodes : ℕ) (area₀ : List ℕ) (k place : ℕ) (ar
   length-kept = same-length (fileModel s) area₀ k area counts (w .passing) (omega (arith, w .room, w .upto))
 
   -- all nodes are through
-  pub sweep-passes : nodes ≤ k → (b : ℕ) → b ≡ bound (fileModel s) → Comes s area₀ (Pass (record { bound = b })) area
-  sweep-passes h b e =
-      pass-ends (fileModel s) area₀ k area counts (w .passing) long (omega (arith, w .nodes-are)) b e
+  pub sweep-passes : nodes ≤ k → (r : Answer) → r ≡ answerFor (pass (bound (fileModel s))) → Comes s area₀ r area
+  sweep-passes h r e =
+      pass-ends (fileModel s) area₀ k area counts (w .passing) long (omega (arith, w .nodes-are)) r e
 
   module _ (h : k < nodes) where
     here : k < length (fileModel s .nodes)

@@ -3,8 +3,9 @@ ghost use mathlib.Core.Path.{_≡_};
 ghost use Prim.Native.Nat.{_*_, _≤_};
 ghost use lib.ListN.{length};
 ghost use Rattle.events.specs.Sets.{room, isEmpty, included};
+ghost use Rattle.network.specs.Model.{bound};
 ghost use Rattle.network.specs.Lists.{firstOf};
-ghost use Rattle.network.specs.Verdict.{verdict};
+ghost use Rattle.network.specs.Verdict.{pass, verdict};
 ghost use Rattle.tests.specs.FirstHit.{refusal};
 ghost use Rattle.reader.specs.Scan.{readable, says};
 ghost use Rattle.reader.specs.File.{fileModel};
@@ -26,6 +27,16 @@ pub enum Answer {
     Pass(Passed),
     Inconclusive(u32),
     Refused(Refusal),
+}
+
+// The pass of a readable file: it tells the file's bound.
+fn pass_with_bound(bytes: &[u8]) -> Answer
+    requires { ⌜ says (now bytes) ≡ readable ⌝ }
+    ensures { λ r. ⌜ r ≡ answerFor (pass (bound (fileModel (now (bytes .entry))))) ⌝ }
+{
+    Answer::Pass(Passed {
+        bound: places::bound_of(bytes),
+    })
 }
 
 // The refusal that node k gives.
@@ -92,9 +103,7 @@ pub fn sweep(bytes: &[u8], n: u32, nodes: u32, area: &mut [u32]) -> Answer
     let mut k: u32 = 0;
     'nodes: loop {
         if nodes <= k {
-            break Answer::Pass(Passed {
-                bound: places::bound_of(bytes),
-            });
+            break pass_with_bound(bytes);
         }
         let r = places::record_at(bytes, place);
         let o = nodes::operands_of(r, &counts);

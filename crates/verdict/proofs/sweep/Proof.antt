@@ -44,8 +44,8 @@ nodes-holds c = let g = c .before .before .before .args in
     sweep-starts _ _ _ _ (bytes-in (g .bytes .now) (λ i. omega (arith, c .before .before .shared-slice-known .given i)))
     (c .before .before .before .pre) (p .result) (p .ensures)
 
-bound-of-requires : tie.Need-bound-of-requires Inv-loop μ-loop Inv-loop2 μ-loop2 Inv-nodes μ-nodes
-bound-of-requires c κs = c .before .before .before .before .before .pre .0
+pass-with-bound-requires : tie.Need-pass-with-bound-requires Inv-loop μ-loop Inv-loop2 μ-loop2 Inv-nodes μ-nodes
+pass-with-bound-requires c κs = c .before .before .before .before .before .pre .0
 
 record-at-requires :
     tie.Need-record-at-requires Inv-loop μ-loop Inv-loop2 μ-loop2 Inv-nodes μ-nodes
@@ -324,7 +324,7 @@ returns : tie.Need-returns Inv-loop μ-loop Inv-loop2 μ-loop2 Inv-nodes μ-node
 returns c = let g = c .before .before .before .before .before .before .args in
     let v = c .before .before .nodes in
     sweep-passes (g .bytes .now) (g .n) (g .nodes) (g .area .now) (v .k) (v .place) (v .area) (v .counts) (v .inv)
-    (omega (arith, c .before .if1 .taken)) _ (c .bound-of .ensures)
+    (omega (arith, c .before .if1 .taken)) _ (c .pass-with-bound .ensures)
 
 same-length-2 : tie.Need-same-length-2 Inv-loop μ-loop Inv-loop2 μ-loop2 Inv-nodes μ-nodes
 same-length-2 c =
@@ -433,7 +433,7 @@ sweep-spec =
     μ-nodes
     node-place-requires
     nodes-holds
-    bound-of-requires
+    pass-with-bound-requires
     record-at-requires
     operands-of-requires
     add-pairs
