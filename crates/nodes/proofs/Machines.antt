@@ -17,7 +17,8 @@ use Rattle.decoding.proofs.Bytes.{first-kind}
 use Rattle.records.proofs.Choices.{cond-false}
 use Rattle.records.proofs.Sizes.{size-positive}
 use Rattle.reader.specs.Scan.{readable, says}
-use Rattle.reader.specs.File.{recordsFrom, recordsOf, labelOf, stepOf, stepsOf, modelOf, fileModel}
+use Rattle.decoding.specs.Labels.{labelOf}
+use Rattle.reader.specs.File.{recordsFrom, recordsOf, stepOf, stepsOf, modelOf, fileModel}
 use Rattle.places.specs.Finding.{machinePlace, statesOf, stepsAt}
 use Rattle.reader.proofs.Turns.{rest}
 use Rattle.reader.proofs.Records.{none-left, records-next}

@@ -24,7 +24,8 @@ use Rattle.tests.proofs.MayStand.{HeaderMet, EndMet}
 use Rattle.tests.proofs.Meeting.{header-out, end-out}
 use Rattle.tests.proofs.Limits.{Counts}
 use Rattle.reader.specs.Scan.{readable, says}
-use Rattle.reader.specs.File.{labelOf, stepOf, stepsOf, machinesOf, recordsOf, modelOf, fileModel}
+use Rattle.decoding.specs.Labels.{labelOf}
+use Rattle.reader.specs.File.{stepOf, stepsOf, machinesOf, recordsOf, modelOf, fileModel}
 use Rattle.reader.specs.Encoding.{recordsOfMachine, recordOfNode, modelRecords, Encodable}
 use Rattle.reader.proofs.Turns.{positive}
 use Rattle.reader.proofs.Plain.{AllPlain}

@@ -21,7 +21,8 @@ use Rattle.tests.proofs.MayStand.{Met, header-met, machine-met, step-met, leaf-
 use Rattle.tests.proofs.MayStand.{end-met}
 use Rattle.tests.proofs.Meeting.{met-out}
 use Rattle.decoding.proofs.Shapes.{Plain, machine-is, step-is, leaf-is, join-is, hide-is, rename-is, end-is}
-use Rattle.reader.specs.File.{labelOf, stepOf, stepsOf, machinesOf, nodeOf, nodesOf}
+use Rattle.decoding.specs.Labels.{labelOf}
+use Rattle.reader.specs.File.{stepOf, stepsOf, machinesOf, nodeOf, nodesOf}
 use Rattle.reader.specs.Encoding.{codeOf, recordOfStep, recordsOfMachine, recordOfNode}
 use Rattle.reader.proofs.Records.{Runs, EndsOnce}
 use Rattle.reader.proofs.Plain.{AllPlain}

@@ -10,7 +10,8 @@ use Rattle.network.specs.Model.{Node, leafNode, joinNode, hideNode, renameNode,
 use Rattle.records.specs.declared.Record.{Record}
 use Rattle.records.specs.Kinds.{silentLabel}
 use Rattle.records.specs.Records.{endRecord}
-use Rattle.reader.specs.File.{labelOf, stepOf, stepsOf, machinesOf, nodeOf, nodesOf, eventCount, modelOf}
+use Rattle.decoding.specs.Labels.{labelOf}
+use Rattle.reader.specs.File.{stepOf, stepsOf, machinesOf, nodeOf, nodesOf, eventCount, modelOf}
 use Rattle.reader.specs.Encoding.{codeOf, recordOfStep, recordsOfMachine, recordOfNode, modelRecords}
 use Rattle.reader.proofs.StepPhase.{Back}
 

@@ -17,7 +17,7 @@ use Rattle.tests.proofs.Passing.{passed-out}
 use Rattle.tests.proofs.MayStand.{StepMet, step-met}
 use Rattle.tests.proofs.Meeting.{step-out}
 use Rattle.tests.proofs.Passes.{met-in}
-use Rattle.reader.specs.File.{labelOf}
+use Rattle.decoding.specs.Labels.{labelOf}
 use Rattle.reader.specs.Encoding.{codeOf, recordOfStep, StepsAscend}
 use Rattle.reader.proofs.Passes.{after, Passes}
 use Rattle.reader.proofs.StepKeys.{key, step-below-in, step-below-out}

@@ -5,10 +5,11 @@ use mathlib.Core.List.{List, [], _∷_}
 use Prim.Native.Nat.{ℕ, zero, suc}
 use lib.Dec.{eqb}
 use lib.ListN.{length, drop}
-use Rattle.network.specs.Machine.{Label, silent, event, Step, step, Machine}
+use Rattle.network.specs.Machine.{Step, step, Machine}
 use Rattle.network.specs.Model.{Node, leafNode, joinNode, hideNode, renameNode, Model}
 use Rattle.records.specs.declared.Record.{Record}
-use Rattle.records.specs.Kinds.{machineKind, stepKind, leafKind, joinKind, hideKind, silentLabel, sizeOf, is, isNode}
+use Rattle.records.specs.Kinds.{machineKind, stepKind, leafKind, joinKind, hideKind, sizeOf, is, isNode}
+use Rattle.decoding.specs.Labels.{labelOf}
 use Rattle.decoding.specs.Bytes.{firstRecord}
 
 -- the records that stand in the bytes b, at most `fuel` of them
@@ -20,10 +21,6 @@ recordsFrom (suc fuel) b =
 -- the records of the file s
 unfoldable pub recordsOf : List ℕ → List Record
 recordsOf s = recordsFrom (length s) s
-
--- a label: 255 is silent
-unfoldable pub labelOf : ℕ → Label
-labelOf x = cond (eqb x silentLabel) silent (event x)
 
 -- the step that a record says
 unfoldable pub stepOf : Record → Step

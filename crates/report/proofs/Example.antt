@@ -17,7 +17,8 @@ use Rattle.progress.specs.Progress.{start, usedWith, takeRecord}
 use Rattle.ranges.specs.Ranges.{wrongTargets}
 use Rattle.tests.specs.FirstHit.{firstHit}
 use Rattle.reader.specs.Scan.{scanFrom, scanOf, toReading, readingOf}
-use Rattle.reader.specs.File.{recordsFrom, recordsOf, labelOf, stepOf, stepsOf, machinesOf, nodeOf, nodesOf, eventCount}
+use Rattle.decoding.specs.Labels.{labelOf}
+use Rattle.reader.specs.File.{recordsFrom, recordsOf, stepOf, stepsOf, machinesOf, nodeOf, nodesOf, eventCount}
 use Rattle.reader.specs.File.{modelOf, fileModel}
 use Rattle.reader.specs.Cases.{example}
 use Rattle.report.specs.Text.{decimalIn, decimal, hexDigit, hex, kindName, line, firstLine, nodeLine, pairLine}
