@@ -9,9 +9,8 @@ use Rattle.analysis.specs.Analysis.{areaAfter}
 use Rattle.analysis.specs.Promise.{verdictOn}
 use Rattle.analysis.proofs.Outcomes.{Outcome, unread, roomless, judged, outcome}
 use Rattle.report.specs.Text.{firstLine}
-use Rattle.report.specs.Promise.{linesFrom, LinesArePrinted}
-use Rattle.report.proofs.Promise.{lines-printed}
-use Rattle.console.specs.Promise.{WalkFindsNodes, written, WrittenIsPrinted}
+use Rattle.console.specs.Promise.{linesFrom, LinesArePrinted, WalkFindsNodes, written, WrittenIsPrinted}
+use Rattle.console.proofs.FromArea.{lines-are-printed}
 use Rattle.console.proofs.Walking.{walk-finds-nodes}
 
 -- only a readable file passes
@@ -19,6 +18,9 @@ passed-read : (s area : List ℕ) (b : ℕ) → verdictOn s area ≡ pass b → 
 passed-read s area b p (unread f q m v) = let z : _≡_ {A = ℕ} 0 1 = cc in absurd (omega arith)
 passed-read s area b p (roomless e l v) = e
 passed-read s area b p (judged e l v z) = e
+
+pub lines-printed : LinesArePrinted
+lines-printed = lines-are-printed
 
 pub walk-finds : WalkFindsNodes
 walk-finds = walk-finds-nodes

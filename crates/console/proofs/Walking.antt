@@ -24,11 +24,10 @@ use Rattle.reader.proofs.Turns.{rest}
 use Rattle.reader.proofs.Formed.{model-formed}
 use Rattle.analysis.specs.Promise.{section}
 use Rattle.report.specs.Printed.{kindOf, inTurn}
-use Rattle.report.specs.Promise.{sectionText}
-use Rattle.report.proofs.FromArea.{node-kind, kind-found}
+use Rattle.console.proofs.FromArea.{node-kind, kind-found}
 use Rattle.console.specs.Output.{textOf}
 use Rattle.console.specs.Walking.{walked}
-use Rattle.console.specs.Promise.{WalkFindsNodes}
+use Rattle.console.specs.Promise.{sectionText, WalkFindsNodes}
 
 -- a record that stands first among those of some bytes
 record Next (f : ℕ) (b : List ℕ) (r : Record) (rs : List Record) : Type 0 where

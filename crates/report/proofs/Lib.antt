@@ -5,6 +5,5 @@ pub mod Standing
 pub mod Counting
 pub mod Example
 pub mod Long
-pub mod FromArea
 pub mod Promise
 pub mod Unique

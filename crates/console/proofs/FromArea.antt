@@ -29,9 +29,9 @@ use Rattle.analysis.specs.Analysis.{areaAfter}
 use Rattle.analysis.specs.Promise.{verdictOn, section, PassExactly, SectionsAreLists, PassBoundsSilence}
 use Rattle.analysis.proofs.Outcomes.{Outcome, unread, roomless, judged, outcome, read-not}
 use Rattle.analysis.proofs.Promise.{passes-exactly, sections-are-lists, pass-bounds}
 use Rattle.report.specs.Text.{firstLine, pairCount}
 use Rattle.report.specs.Printed.{verdictAt, kindOf, nodeText, inTurn, printedFor, printed}
-use Rattle.report.specs.Promise.{sectionText, linesFrom, LinesArePrinted}
+use Rattle.console.specs.Promise.{sectionText, linesFrom, LinesArePrinted}
 
 -- a list without zeros, then zeros: as many pairs as the list has
 count-of-list : (xs : List ℕ) (m : ℕ) → ((x : ℕ) → List·Memᴰ x xs → x ≡ 0 → ⊥) → pairCount (xs ++ zeros m) ≡ length xs
