@@ -171,12 +171,13 @@ module _ (o : Operands) (area : List ℕ) where
 -- what is built in the area: nothing where the list is over, otherwise its section
 module _ (xs : List ℕ) (k : ℕ) (area : List ℕ) (count : ℕ) (over : Bool) (entries : List ℕ)
     (g : Gives xs count over entries) where
-  pub built-over : over ≡ true → Built xs k area count over area
+  pub built-over : over ≡ true → Built xs k area 0 true area
   built-over q =
       record {
-        over-exactly = g .over-exactly;
-        count-is = g .count-is;
-        section-is = λ p. absurd (true-not-false (sym q ∙ p));
+        over-exactly = sym q ∙ g .over-exactly;
+        count-is = λ p. absurd (true-not-false p);
+        section-is = λ p. absurd (true-not-false p);
+        none-counts = λ p. refl;
         area-stays = λ p. refl;
       }
 
@@ -206,5 +207,6 @@ module _ (xs : List ℕ) (k : ℕ) (area : List ℕ) (count : ℕ) (over : Bool)
         count-is = g .count-is;
         section-is = λ p. rw (m, z) (ap (λ (t : List ℕ). take (mostPairs * k) area ++ (padded xs ++ t))
             (drop-drop mostPairs (mostPairs * k) area));
+        none-counts = λ p. absurd (true-not-false (sym p ∙ q));
         area-stays = λ p. absurd (true-not-false (sym p ∙ q));
       }

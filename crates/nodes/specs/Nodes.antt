@@ -61,11 +61,12 @@ pub record NodeReady (s : List ℕ) (n : ℕ) (r : Record) (xs ys : List ℕ) : 
   pub left-inside : AllInside n xs
   pub right-inside : AllInside n ys
 
--- the list xs built for node k: over exactly if it has more than 256 pairs, and then the area stays; otherwise its
--- count, and section k is its pairs and zeros
+-- the list xs built for node k: over exactly if it has more than 256 pairs, and then none counts and the area stays;
+-- otherwise its count, and section k is its pairs and zeros
 pub record Built (xs : List ℕ) (k : ℕ) (area : List ℕ) (count : ℕ) (over : Bool) (area′ : List ℕ) : Type 0 where
   pub over-exactly : over ≡ ltb mostPairs (length xs)
   pub count-is : over ≡ false → count ≡ length xs
   pub section-is : over ≡ false
       → area′ ≡ take (mostPairs * k) area ++ (padded xs ++ drop (mostPairs * k + mostPairs) area)
+  pub none-counts : over ≡ true → count ≡ 0
   pub area-stays : over ≡ true → area′ ≡ area

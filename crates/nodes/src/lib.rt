@@ -115,7 +115,7 @@ fn node_list(bytes: &[u8], n: u32, r: Record, xs: &[u32], ys: &[u32]) -> PairLis
     lists::hide(xs, set)
 }
 
-// The list of node k built and, unless it is over, stored in section k.
+// The list of node k built and, unless it is over, stored in section k; of one that is over no pair counts.
 pub fn build(bytes: &[u8], n: u32, r: Record, o: Operands, k: usize, area: &mut [u32]) -> Tally
     requires { ⌜
         NodeReady (now bytes) n r (leftOf o (now area)) (rightOf o (now area)) × (k < 32)
@@ -138,7 +138,10 @@ pub fn build(bytes: &[u8], n: u32, r: Record, o: Operands, k: usize, area: &mut 
         over: list.over,
     };
     if t.over {
-        return t;
+        return Tally {
+            count: 0,
+            over: true,
+        };
     }
     let at = 256 * k;
     filling::store(list, &mut area[at..at + 256]);
