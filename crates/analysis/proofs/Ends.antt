@@ -6,10 +6,12 @@ use mathlib.Core.List.{List, _++_}
 use Prim.Native.Nat.{ℕ, _*_, _≤_, _<_}
 use native.Mathlib.Omega.{arith}
 use lib.ListN.{length, take, drop}
-use lib.Seq.{length-take-le}
+use lib.Seq.{length-take-le, take-all}
 use borrow.Author.Tests.{lt-ltb, le-ltb}
-use Rattle.network.specs.Model.{Model}
-use Rattle.network.specs.Verdict.{Verdict, pass, inconclusive, refused, verdict}
+use Rattle.network.specs.Network.{Network}
+use Rattle.network.specs.Model.{Model, networks}
+use Rattle.network.specs.Verdict.{Verdict, pass, inconclusive, refused, mostPairs, verdict}
+use Rattle.network.proofs.Nodes.{networks-length}
 use Rattle.records.proofs.Choices.{true-not-false}
 use Rattle.progress.specs.declared.Progress.{Progress}
 use Rattle.tests.specs.declared.Refusal.{Refusal}
@@ -22,10 +24,10 @@ use Rattle.filling.specs.Building.{zeros}
 use Rattle.verdict.specs.declared.Answer.{Answer}
 use Rattle.verdict.specs.declared.Answer.the-variants.{Pass, Inconclusive, Refused}
 use Rattle.verdict.specs.declared.Passed.{Passed}
-use Rattle.verdict.specs.Answers.{answerFor, needed, sectionsFor}
+use Rattle.verdict.specs.Answers.{answerFor, needed, sectionsOf, sectionsFor}
 use Rattle.analysis.specs.Analysis.{isPass, passOf, sectionsAfter, answerAt, areaAt}
 use Rattle.analysis.specs.Analysis.{analysisOf, areaAfter}
-use Rattle.verdict.specs.Sweeping.{BehindKept, Swept}
+use Rattle.verdict.specs.Sweeping.{sweptTo, through, BehindKept}
 
 -- whether an answer is a pass, by its variant
 pub pass-is : (r : Answer) (p : Passed) → r ≡ Pass p → true ≡ isPass r
@@ -56,36 +58,41 @@ module _ (M : Model) (area : List ℕ) where
   unfolding passOf sectionsAfter
   has-room h r area′ e f = rw (le-ltb (length area) (needed M) h) (e, f)
 
-  swept-pass : (area′ : List ℕ) (r : Answer) (v : Verdict) → isPass r ≡ true → r ≡ answerFor v → Swept M v area area′
-      → area′ ≡ sectionsFor M v ++ drop (needed M) area
-  unfolding answerFor Swept sectionsFor isPass
-  swept-pass area′ r (pass b) h e w = w
+  all-swept : sweptTo M (length (M .nodes)) area ≡ sectionsOf (M .events) (networks M) ++ drop (needed M) area
+  unfolding sweptTo needed
+  all-swept =
+      ap (λ (ts : List Network). sectionsOf (M .events) ts ++ drop (mostPairs * length (M .nodes)) area)
+      (take-all (length (M .nodes)) (networks M) (omega (arith, networks-length M)))
+
+  swept-pass : (area′ : List ℕ) (r : Answer) (v : Verdict) → isPass r ≡ true → r ≡ answerFor v
+      → area′ ≡ sweptTo M (through M v) area → area′ ≡ sectionsFor M v ++ drop (needed M) area
+  unfolding answerFor through sectionsFor isPass
+  swept-pass area′ r (pass b) h e w = w ∙ all-swept
   swept-pass area′ r (inconclusive k) h e w = absurd (true-not-false (sym (rw e at h)))
   swept-pass area′ r (refused i k) h e w = absurd (true-not-false (sym (rw e at h)))
 
-  swept-stop : (area′ : List ℕ) (r : Answer) (v : Verdict) → isPass r ≡ false → r ≡ answerFor v → Swept M v area area′
-      → (sectionsFor M v ≡ zeros (needed M)) × BehindKept M area area′
-  unfolding answerFor Swept sectionsFor isPass
-  swept-stop area′ r (pass b) h e w = absurd (true-not-false (rw e at h))
-  swept-stop area′ r (inconclusive k) h e w = (refl, w)
-  swept-stop area′ r (refused i k) h e w = (refl, w)
+  stop-clears : (r : Answer) (v : Verdict) → isPass r ≡ false → r ≡ answerFor v → sectionsFor M v ≡ zeros (needed M)
+  unfolding answerFor sectionsFor isPass
+  stop-clears r (pass b) h e = absurd (true-not-false (rw e at h))
+  stop-clears r (inconclusive k) h e = refl
+  stop-clears r (refused i k) h e = refl
 
   -- after a pass
   pub ends-pass : needed M ≤ length area → (r : Answer) (area′ : List ℕ) → isPass r ≡ true
-      → r ≡ answerFor (verdict M) → Swept M (verdict M) area area′
+      → r ≡ answerFor (verdict M) → area′ ≡ sweptTo M (through M (verdict M)) area
       → (r ≡ passOf M area) × (area′ ≡ sectionsAfter M area)
   ends-pass h r area′ q e w = has-room h r area′ e (swept-pass area′ r (verdict M) q e w)
 
   -- after a stop, with the sections cleared
   pub ends-stop : needed M ≤ length area → (r : Answer) (part area′ : List ℕ) (n : ℕ) → isPass r ≡ false
-      → r ≡ answerFor (verdict M) → Swept M (verdict M) area area′ → n ≡ needed M
+      → r ≡ answerFor (verdict M) → BehindKept M area area′ → n ≡ needed M
       → part ≡ zeros (length (take n area′))
       → (r ≡ passOf M area) × (part ++ drop n area′ ≡ sectionsAfter M area)
   ends-stop h r part area′ n q e w z p =
-      let s = swept-stop area′ r (verdict M) q e w in
+      let s = stop-clears r (verdict M) q e in
       let k : length (take n area′) ≡ needed M =
-      length-take-le n area′ (omega (arith, z, s .1 .0)) ∙ z in
-      has-room h r (part ++ drop n area′) e (rw (s .0, p, k, z, s .1 .1) refl)
+      length-take-le n area′ (omega (arith, z, w .0)) ∙ z in
+      has-room h r (part ++ drop n area′) e (rw (s, p, k, z, w .1) refl)
 
 -- a file that is not readable, and one that is
 module _ (s area : List ℕ) where

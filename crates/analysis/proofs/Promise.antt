@@ -70,7 +70,7 @@ module _ (M : Model) (w : WellFormed M) (few : M .events ≤ 16) where
     where
       at : PassOver M → AllFit (M .events) (networks M) × (b ≡ bound M)
       at (all-quiet q quiet) = (
-        fit-all (M .events) (networks M) (λ j l. quiet j (rw (networks-length M w) at l) .not-over),
+        fit-all (M .events) (networks M) (λ j l. quiet j (rw (networks-length M) at l) .not-over),
         cc,
       )
       at (stopped-at j l before g) =
@@ -149,7 +149,7 @@ sections-are-lists s area y b p k h = at (outcome s area)
         let M = fileModel s in
         let passed : verdict M ≡ pass b = sym v ∙ p in
         let fits = passed-fits M (well s y a) (few-events s y a) b passed .0 in
-        let long : k < length (networks M) = rw (networks-length M (well s y a)) h in
+        let long : k < length (networks M) = rw (networks-length M) h in
         let xs = listOf (M .events) (nodeNetwork M k) in
         let there : section (areaAfter s area) k ≡ padded xs =
         ap (λ (t : List ℕ). section t k)

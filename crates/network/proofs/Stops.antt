@@ -78,10 +78,10 @@ unfolding Outcome verdict nodeNetwork
 pass-over M w = at (outcome (M .events) (bound M) 0 (networks M))
   where
     at : Outcome (M .events) (bound M) 0 (networks M) (verdict M) → PassOver M
-    at (inl (q, all)) = all-quiet q (λ j l. all j (rw (networks-length M w) l))
+    at (inl (q, all)) = all-quiet q (λ j l. all j (rw (networks-length M) l))
     at (inr (j, l, before, g)) =
         let q : 0 + j ≡ j = omega arith in
-        stopped-at j (rw (networks-length M w) at l) before (rw q at g)
+        stopped-at j (rw (networks-length M) at l) before (rw q at g)
 
 -- a node that gives anything does not give a pass
 pub gives-no-pass : (n k b : ℕ) (t : Network) (v : Verdict) → Gives n k t v → v ≡ pass b → ⊥

@@ -5,3 +5,4 @@ pub mod Passing
 pub mod AtNode
 pub mod PairLoops
 pub mod Sweeps
+pub mod Unique

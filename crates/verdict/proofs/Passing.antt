@@ -12,7 +12,7 @@ use native.Mathlib.Omega.{arith}
 use lib.Dec.{ltb}
 use lib.ListN.{length, take, drop, getD, set, replicate, length-append, length-drop, length-set, length-replicate}
 use lib.Seq.{take-suc, drop-cons, take-at, drop-append-add, drop-drop, length-take-le, getD-take, getD-set-same}
-use lib.Seq.{getD-set-other, take-length}
+use lib.Seq.{getD-set-other}
 use borrow.Author.Tests.{ltb-false}
 use Rattle.network.specs.Network.{Network}
 use Rattle.network.specs.Model.{Model, nowhere, networks, nodeNetwork, bound}
@@ -24,7 +24,7 @@ use Rattle.filling.specs.Building.{padded}
 use Rattle.verdict.specs.declared.Answer.{Answer}
 use Rattle.verdict.specs.declared.Answer.the-variants.{Inconclusive, Refused}
 use Rattle.verdict.specs.Answers.{answerFor, needed, sectionsOf}
-use Rattle.verdict.specs.Sweeping.{Swept}
+use Rattle.verdict.specs.Sweeping.{sweptTo, through, BehindKept}
 use Rattle.nodes.specs.Nodes.{Built}
 use Rattle.verdict.proofs.Sections.{AllFit, fit-more, fit-at, sections-more, sections-length, list-at}
 
@@ -37,6 +37,11 @@ pub record Passing (M : Model) (area₀ : List ℕ) (k : ℕ) (area counts : Lis
   pub counted : (i : ℕ) → i < k → getD counts i 0 ≡ length (listOf (M .events) (nodeNetwork M i))
   pub full : length counts ≡ 32
   pub so-far : verdict M ≡ verdictFrom (M .events) (bound M) k (drop k (networks M))
+
+-- the pass over model M's nodes ends with an answer and an area, from area₀
+abbrev pub Ends : Model → List ℕ → Answer → List ℕ → Type 0
+Ends M area₀ r area =
+    (r ≡ answerFor (verdict M)) × ((area ≡ sweptTo M (through M (verdict M)) area₀) × BehindKept M area₀ area)
 
 pub pass-start : (M : Model) (area : List ℕ) → Passing M area 0 area (replicate 32 0)
 unfolding AllFit sectionsOf verdict flatMap
@@ -92,23 +97,23 @@ module _ (M : Model) (area₀ : List ℕ) (k : ℕ) (area counts : List ℕ) (P 
       ∙ drop-append-add (sectionsOf (M .events) before) (drop (mostPairs * k) area₀) (mostPairs * n - mostPairs * k)
       ∙ drop-drop (mostPairs * n - mostPairs * k) (mostPairs * k) area₀ ∙ ap (λ (m : ℕ). drop m area₀) r
 
+  kept : k ≤ length (M .nodes) → mostPairs * length (M .nodes) ≤ length area₀ → BehindKept M area₀ area
+  unfolding needed
+  kept h r = (same-length (omega arith), behind (length (M .nodes)) h)
+
   -- all nodes are through: a pass
-  pub pass-ends : length (networks M) ≡ length (M .nodes) → length (M .nodes) ≤ k → (r : Answer)
-      → r ≡ answerFor (pass (bound M)) → (r ≡ answerFor (verdict M)) × Swept M (verdict M) area₀ area
-  unfolding Swept verdictFrom needed
-  pass-ends l h r e =
+  pub pass-ends : length (networks M) ≡ length (M .nodes) → length (M .nodes) ≤ k
+      → mostPairs * length (M .nodes) ≤ length area₀ → (r : Answer) → r ≡ answerFor (pass (bound M))
+      → Ends M area₀ r area
+  unfolding sweptTo through verdictFrom
+  pass-ends l h room r e =
       let q : k ≡ length (networks M) = omega (arith, P .upto) in
       let m : length (M .nodes) ≡ k = omega (arith, P .upto) in
       let v : verdict M ≡ pass (bound M) =
       P .so-far ∙ ap (λ (x : ℕ). verdictFrom (M .events) (bound M) k (drop x (networks M))) q
       ∙ ap (verdictFrom (M .events) (bound M) k) (drop-all (networks M)) in
-      let t : take k (networks M) ≡ networks M =
-      ap (λ (x : ℕ). take x (networks M)) q ∙ take-length (networks M) in
-      rw (v, m) (
-        e,
-        P .whole ∙ ap
-            (λ (ts : List Network). sectionsOf (M .events) ts ++ drop (mostPairs * k) area₀) t,
-      )
+      let b = kept (omega (arith, m)) room in
+      rw v (e, (rw m (P .whole), b))
     where
       drop-all : (ts : List Network) → drop (length ts) ts ≡ []
       drop-all [] = refl
@@ -132,32 +137,30 @@ module _ (M : Model) (area₀ : List ℕ) (k : ℕ) (area counts : List ℕ) (P 
     unfolding nodeNetwork
     taken-more = take-suc (networks M) k nowhere (omega (arith, l))
 
-    kept : mostPairs * length (M .nodes) ≤ length area₀
-        → (length area ≡ length area₀) × (drop (needed M) area ≡ drop (needed M) area₀)
-    unfolding needed
-    kept r = (same-length (omega arith), behind (length (M .nodes)) (omega arith))
-
     -- 12 at node k
     pub stop-empty : mostPairs * length (M .nodes) ≤ length area₀
         → operandEmpty (M .events) (nodeNetwork M k) ≡ true
-        → (Refused (refusal 12 k) ≡ answerFor (verdict M)) × Swept M (verdict M) area₀ area
-    unfolding answerFor Swept verdictFrom
-    stop-empty r e = let v : verdict M ≡ refused 12 k = turn ∙ rw e in rw v (refl, kept r)
+        → Ends M area₀ (Refused (refusal 12 k)) area
+    unfolding answerFor sweptTo through verdictFrom
+    stop-empty r e =
+        let v : verdict M ≡ refused 12 k = turn ∙ rw e in rw v (refl, (P .whole, kept (omega arith) r))
 
     -- the flag at node k
     pub stop-flag : mostPairs * length (M .nodes) ≤ length area₀
         → operandEmpty (M .events) (nodeNetwork M k) ≡ false → flagOf (M .events) (nodeNetwork M k) ≡ true
-        → (Inconclusive k ≡ answerFor (verdict M)) × Swept M (verdict M) area₀ area
-    unfolding answerFor Swept verdictFrom
-    stop-flag r e f = let v : verdict M ≡ inconclusive k = turn ∙ rw (e, f) in rw v (refl, kept r)
+        → Ends M area₀ (Inconclusive k) area
+    unfolding answerFor sweptTo through verdictFrom
+    stop-flag r e f =
+        let v : verdict M ≡ inconclusive k = turn ∙ rw (e, f) in rw v (refl, (P .whole, kept (omega arith) r))
 
     -- 11 at node k
     pub stop-over : mostPairs * length (M .nodes) ≤ length area₀
         → operandEmpty (M .events) (nodeNetwork M k) ≡ false → flagOf (M .events) (nodeNetwork M k) ≡ false
         → ltb mostPairs (length (listOf (M .events) (nodeNetwork M k))) ≡ true
-        → (Refused (refusal 11 k) ≡ answerFor (verdict M)) × Swept M (verdict M) area₀ area
-    unfolding answerFor Swept verdictFrom isOver
-    stop-over r e f o = let v : verdict M ≡ refused 11 k = turn ∙ rw (e, f, o) in rw v (refl, kept r)
+        → Ends M area₀ (Refused (refusal 11 k)) area
+    unfolding answerFor sweptTo through verdictFrom isOver
+    stop-over r e f o =
+        let v : verdict M ≡ refused 11 k = turn ∙ rw (e, f, o) in rw v (refl, (P .whole, kept (omega arith) r))
 
     -- node k gives nothing: its list is stored
     pub go-on : mostPairs * length (M .nodes) ≤ length area₀ → k < 32

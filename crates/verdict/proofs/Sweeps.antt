@@ -8,7 +8,7 @@ use native.Mathlib.Omega.{arith}
 use lib.ListN.{length, set, replicate}
 use Rattle.network.specs.Model.{networks, nodeNetwork, bound}
 use Rattle.network.specs.Lists.{listOf, flagOf}
-use Rattle.network.specs.Verdict.{pass, mostPairs, operandEmpty, verdict}
+use Rattle.network.specs.Verdict.{pass, mostPairs, operandEmpty}
 use Rattle.network.proofs.Nodes.{networks-length}
 use Rattle.records.specs.declared.Record.{Record}
 use Rattle.records.specs.Kinds.{sizeOf}
@@ -18,7 +18,6 @@ use Rattle.tests.specs.FirstHit.{refusal}
 use Rattle.reader.specs.Scan.{readable, says}
 use Rattle.reader.specs.File.{fileModel}
 use Rattle.places.specs.Finding.{nodePlace, recordAt}
-use Rattle.reader.proofs.Formed.{model-formed}
 use Rattle.places.proofs.Found.{node-inside}
 use Rattle.places.proofs.Next.{next-node}
 use Rattle.places.proofs.Multiplying.{short}
@@ -26,10 +25,9 @@ use Rattle.verdict.specs.declared.Answer.{Answer}
 use Rattle.verdict.specs.declared.Answer.the-variants.{Inconclusive, Refused}
 use Rattle.nodes.specs.declared.Operands.{Operands}
 use Rattle.verdict.specs.Answers.{answerFor}
-use Rattle.verdict.specs.Sweeping.{Swept}
 use Rattle.nodes.specs.Nodes.{Placed, operandsOf, leftOf, rightOf, listFor, Built}
 use Rattle.verdict.proofs.Passing.{Passing, pass-start, pass-ends, stop-empty, stop-flag, stop-over, go-on}
-use Rattle.verdict.proofs.Passing.{same-length}
+use Rattle.verdict.proofs.Passing.{Ends, same-length}
 use Rattle.verdict.proofs.AtNode.{AtNode, placed-there, at-node}
 use Rattle.verdict.proofs.PairLoops.{SwallowSought, swallow-end}
 
@@ -60,25 +58,21 @@ sweep-starts s n nodes area y w place e =
       passing = pass-start (fileModel s) area;
     }
 
--- an answer and an area are those that the pass over the file s from area₀ comes to
-abbrev pub Comes : List ℕ → List ℕ → Answer → List ℕ → Type 0
-Comes s area₀ r area = (r ≡ answerFor (verdict (fileModel s))) × Swept (fileModel s) (verdict (fileModel s)) area₀ area
-
 module _ (s : List ℕ) (n nodes : ℕ) (area₀ : List ℕ) (k place : ℕ) (area counts : List ℕ)
     (w : Sweeping s n nodes area₀ k place area counts) where
   room-there : mostPairs * length (fileModel s .nodes) ≤ length area₀
   room-there = omega (arith, w .room, w .nodes-are)
 
   long : length (networks (fileModel s)) ≡ length (fileModel s .nodes)
-  long = networks-length (fileModel s) (model-formed s (w .bytes-are) (w .read) .well-formed)
+  long = networks-length (fileModel s)
 
   pub length-kept : length area ≡ length area₀
   length-kept = same-length (fileModel s) area₀ k area counts (w .passing) (omega (arith, w .room, w .upto))
 
   -- all nodes are through
-  pub sweep-passes : nodes ≤ k → (r : Answer) → r ≡ answerFor (pass (bound (fileModel s))) → Comes s area₀ r area
+  pub sweep-passes : nodes ≤ k → (r : Answer) → r ≡ answerFor (pass (bound (fileModel s))) → Ends (fileModel s) area₀ r area
   sweep-passes h r e =
-      pass-ends (fileModel s) area₀ k area counts (w .passing) long (omega (arith, w .nodes-are)) r e
+      pass-ends (fileModel s) area₀ k area counts (w .passing) long (omega (arith, w .nodes-are)) room-there r e
 
   module _ (h : k < nodes) where
     here : k < length (fileModel s .nodes)
@@ -112,11 +106,11 @@ module _ (s : List ℕ) (n nodes : ℕ) (area₀ : List ℕ) (k place : ℕ) (ar
 
     -- 12, and the flag
     pub sweep-empty : (x : Answer) → x ≡ Refused (refusal 12 k)
-        → operandEmpty (fileModel s .events) (nodeNetwork (fileModel s) k) ≡ true → Comes s area₀ x area
+        → operandEmpty (fileModel s .events) (nodeNetwork (fileModel s) k) ≡ true → Ends (fileModel s) area₀ x area
     sweep-empty x q e = rw q (stop-empty (fileModel s) area₀ k area counts (w .passing) long here room-there e)
 
     pub sweep-flag : operandEmpty (fileModel s .events) (nodeNetwork (fileModel s) k) ≡ false
-        → flagOf (fileModel s .events) (nodeNetwork (fileModel s) k) ≡ true → Comes s area₀ (Inconclusive k) area
+        → flagOf (fileModel s .events) (nodeNetwork (fileModel s) k) ≡ true → Ends (fileModel s) area₀ (Inconclusive k) area
     sweep-flag e f = stop-flag (fileModel s) area₀ k area counts (w .passing) long here room-there e f
 
     -- the list is built: 11, or on to the next node
@@ -129,7 +123,7 @@ module _ (s : List ℕ) (n nodes : ℕ) (area₀ : List ℕ) (k place : ℕ) (ar
       built : Built (listOf (fileModel s .events) (nodeNetwork (fileModel s) k)) k area count over area′
       built = rw (← a .seen .lists-are) b
 
-      pub sweep-over : over ≡ true → (x : Answer) → x ≡ Refused (refusal 11 k) → Comes s area₀ x area′
+      pub sweep-over : over ≡ true → (x : Answer) → x ≡ Refused (refusal 11 k) → Ends (fileModel s) area₀ x area′
       sweep-over q x e =
           rw (e, b .area-stays q)
           (stop-over (fileModel s) area₀ k area counts (w .passing) long here room-there (a .no-empty) quiet

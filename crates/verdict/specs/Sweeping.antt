@@ -3,11 +3,11 @@
 use mathlib.Core.Path.{_≡_}
 use mathlib.Core.Bool.{cond}
 use mathlib.Core.List.{List, _++_}
-use Prim.Native.Nat.{ℕ, _+_, _-_}
+use Prim.Native.Nat.{ℕ, _+_, _-_, _*_}
 use lib.Dec.{ltb}
-use lib.ListN.{length, drop}
+use lib.ListN.{length, take, drop}
 use Rattle.network.specs.Model.{Model, networks}
-use Rattle.network.specs.Verdict.{Verdict, pass, inconclusive, refused}
+use Rattle.network.specs.Verdict.{Verdict, pass, inconclusive, refused, mostPairs}
 use Rattle.records.specs.declared.Record.{Record}
 use Rattle.records.specs.Kinds.{hideKind, is}
 use Rattle.nodes.specs.declared.Operands.{Operands}
@@ -21,12 +21,16 @@ pairPlace o i = cond (ltb i (o .lefts)) (o .left + i) (o .right + (i - o .lefts)
 unfoldable pub hiddenPairs : Record → ℕ → ℕ
 hiddenPairs r count = cond (is hideKind r) count 0
 
--- the entries behind the sections of model M are as they were
+-- the area once the pass is through with the first k nodes of model M: their lists in their sections, the rest as it was
+unfoldable pub sweptTo : Model → ℕ → List ℕ → List ℕ
+sweptTo M k area = sectionsOf (M .events) (take k (networks M)) ++ drop (mostPairs * k) area
+
+-- how many nodes of model M the pass is through with when it comes to a verdict: all, or those before the one named
+unfoldable pub through : Model → Verdict → ℕ
+through M (pass b) = length (M .nodes)
+through M (inconclusive k) = k
+through M (refused number k) = k
+
+-- the area has its length, and the entries behind the sections of model M are as they were
 abbrev pub BehindKept : Model → List ℕ → List ℕ → Type 0
 BehindKept M area area′ = (length area′ ≡ length area) × (drop (needed M) area′ ≡ drop (needed M) area)
-
--- the area after the pass over model M's nodes came to a verdict: after a pass its sections are the lists
-unfoldable pub Swept : Model → Verdict → List ℕ → List ℕ → Type 0
-Swept M (pass b) area area′ = area′ ≡ sectionsOf (M .events) (networks M) ++ drop (needed M) area
-Swept M (inconclusive k) area area′ = BehindKept M area area′
-Swept M (refused number place) area area′ = BehindKept M area area′

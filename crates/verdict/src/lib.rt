@@ -11,7 +11,7 @@ ghost use Rattle.reader.specs.Scan.{readable, says};
 ghost use Rattle.reader.specs.File.{fileModel};
 ghost use Rattle.verdict.specs.Answers.{answerFor};
 ghost use Rattle.verdict.specs.Sweeping.{pairPlace, hiddenPairs};
-ghost use Rattle.verdict.specs.Sweeping.{Swept};
+ghost use Rattle.verdict.specs.Sweeping.{sweptTo, through, BehindKept};
 use events::EventSet;
 use nodes::Operands;
 use records::Record;
@@ -92,11 +92,12 @@ pub fn sweep(bytes: &[u8], n: u32, nodes: u32, area: &mut [u32]) -> Answer
         (says (now bytes) ≡ readable) × (n ≡ fileModel (now bytes) .events)
         × (nodes ≡ length (fileModel (now bytes) .nodes)) × (256 * nodes ≤ length (now area))
         ⌝ }
-    ensures { λ r. ⌜
-        (r ≡ answerFor (verdict (fileModel (now (bytes .entry)))))
-        × Swept (fileModel (now (bytes .entry))) (verdict (fileModel (now (bytes .entry))))
-        (now (area .entry)) (now (area .exit))
+    ensures answer { λ r. ⌜ r ≡ answerFor (verdict (fileModel (now (bytes .entry)))) ⌝ }
+    ensures area { λ r. ⌜
+        now (area .exit) ≡ sweptTo (fileModel (now (bytes .entry)))
+        (through (fileModel (now (bytes .entry))) (verdict (fileModel (now (bytes .entry))))) (now (area .entry))
         ⌝ }
+    ensures behind { λ r. ⌜ BehindKept (fileModel (now (bytes .entry))) (now (area .entry)) (now (area .exit)) ⌝ }
 {
     let mut counts = [0usize; 32];
     let mut place = places::node_place(bytes, 0);

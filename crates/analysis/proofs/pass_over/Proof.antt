@@ -49,7 +49,7 @@ returns-2 c =
     let w = c .before .before .before .before .sweep in
     let need = need-is (fileModel (g .bytes .now)) (g .nodes) (entry .pre .1) in
     ends-pass (fileModel (g .bytes .now)) (g .area .now) (omega (arith, need, room .if1 .left)) _ _
-    (sym (c .before .is-pass .ensures) ∙ c .if2 .taken) (w .ensures .0) (w .ensures .1)
+    (sym (c .before .is-pass .ensures) ∙ c .if2 .taken) (w .ensures .0) (w .ensures .1 .0)
 
 slice-relend-prefix-clear : tie.Need-slice-relend-prefix-clear
 slice-relend-prefix-clear c = search needs
@@ -75,7 +75,7 @@ returns-3 c =
     let w = stopped .before .before .before .before .sweep in
     let need = need-is (fileModel (g .bytes .now)) (g .nodes) (entry .pre .1) in
     ends-stop (fileModel (g .bytes .now)) (g .area .now) (omega (arith, need, room .if1 .left)) _ _ _
-    (256 * g .nodes) (sym (stopped .before .is-pass .ensures) ∙ stopped .if2 .left) (w .ensures .0) (w .ensures .1)
+    (256 * g .nodes) (sym (stopped .before .is-pass .ensures) ∙ stopped .if2 .left) (w .ensures .0) (w .ensures .1 .1)
     need (c .before .before .clear .ensures)
 
 pub pass-over-spec : {M : Type 1} → statement M
