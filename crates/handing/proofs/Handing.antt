@@ -1,14 +1,14 @@
 -- The record that is handed in, by its kind; and the bytes of a record of each kind, as the code lays them out.
 -- Assumes nothing.
-use mathlib.Core.Path.{_≡_, refl, sym, ap, _∙_}
+use mathlib.Core.Path.{_≡_, refl, sym, ap}
 use mathlib.Core.Bool.{Bool, true, false, cond}
-use mathlib.Core.List.{List, [], _∷_, map}
+use mathlib.Core.List.{List, [], _∷_, map, append-nil}
 use Prim.Native.Nat.{ℕ, zero, suc, _/_, _≤_}
 use native.Mathlib.Omega.{arith}
 use native.Mathlib.Decide.{ℕ-discrete, decLe}
 use lib.Dec.{eqb}
 use lib.ListN.{length, take, drop, replicate, length-map, length-take}
-use lib.Seq.{paste, take-all, take-at}
+use lib.Seq.{paste, take-all}
 use borrow.Author.Tests.{ne-eqb, eqb-true}
 use Rattle.records.specs.declared.Record.{Record}
 use Rattle.records.specs.Kinds.{sizeOf, bodyLength, headerKind, machineKind, stepKind, leafKind, joinKind, hideKind}
@@ -17,8 +17,7 @@ use Rattle.records.specs.Records.{headerRecord, machineRecord, stepRecord, leaf
 use Rattle.records.specs.Records.{renameRecord, endRecord, otherRecord, noTargets}
 use Rattle.decoding.specs.Bytes.{bytesOf}
 use Rattle.records.proofs.Sizes.{each-kind, size-beyond}
-use Rattle.handing.specs.Handing.{lowByte, handedIn}
-use Rattle.handing.specs.Handing.{numbersOf}
+use Rattle.handing.specs.Handing.{lowByte, handedIn, numbersOf, recordArray}
 
 -- a kind that is none of the eight
 pub handed-other : (used k : ℕ) (xs : List ℕ) → (k ≡ headerKind → ⊥) → (k ≡ machineKind → ⊥) → (k ≡ stepKind → ⊥)
@@ -37,90 +36,110 @@ handed-other used k xs a b c d e f g h =
       ne-eqb k endKind h,
     )
 
--- and its size
-other-size : (k : ℕ) → (k ≡ headerKind → ⊥) → (k ≡ machineKind → ⊥) → (k ≡ stepKind → ⊥) → (k ≡ leafKind → ⊥)
-    → (k ≡ joinKind → ⊥) → (k ≡ hideKind → ⊥) → (k ≡ renameKind → ⊥) → (k ≡ endKind → ⊥) → sizeOf k ≡ 1
+-- a number with a body is a kind's
+some-kind : (k : ℕ) → (sizeOf k ≡ 1 → ⊥) → (1 ≤ k) × (k ≤ 8)
 unfolding sizeOf bodyLength
-other-size zero a b c d e f g h = refl
-other-size (suc k) a b c d e f g h = at (decLe 9 (suc k))
+some-kind zero p = absurd (p refl)
+some-kind (suc k) p = (omega arith, at (decLe 9 (suc k)))
   where
-    at : Dec (9 ≤ suc k) → sizeOf (suc k) ≡ 1
-    at (yes l) = size-beyond (suc k) l
-    at (no l) =
-        absurd (each-kind (λ j. suc k ≡ j → ⊥) a b c d e f g h (suc k) (omega arith) (omega arith) refl)
+    at : Dec (9 ≤ suc k) → suc k ≤ 8
+    at (yes l) = absurd (p (size-beyond (suc k) l))
+    at (no l) = omega arith
 
 low-twice : (x : ℕ) → lowByte x ≡ lowByte (lowByte x)
 low-twice x = omega arith
 
--- the bytes of a record of each kind, with anything behind them
-module _ (r : Record) (z : List ℕ) where
+-- the array of a record of each kind, as the code lays it out
+module _ (r : Record) where
   pub bytes-step : r .kind ≡ stepKind
-      → take (sizeOf (r .kind)) (lowByte (r .kind) ∷ lowByte (r .from) ∷ lowByte (r .label) ∷ lowByte (r .to) ∷ z)
-      ≡ map lowByte (bytesOf r)
-  unfolding bytesOf sizeOf bodyLength
+      → lowByte (r .kind) ∷ lowByte (r .from) ∷ lowByte (r .label) ∷ lowByte (r .to) ∷ 0 ∷ replicate 13 0
+      ≡ recordArray r
+  unfolding recordArray bytesOf sizeOf bodyLength
   bytes-step q = rw q
 
   pub bytes-join : r .kind ≡ joinKind
-      → take (sizeOf (r .kind))
-      (lowByte (r .kind) ∷ lowByte (r .left) ∷ lowByte (r .right) ∷ lowByte (r .set) ∷ lowByte (r .set / 256) ∷ z)
-      ≡ map lowByte (bytesOf r)
-  unfolding bytesOf sizeOf bodyLength
+      → lowByte (r .kind) ∷ lowByte (r .left) ∷ lowByte (r .right) ∷ lowByte (r .set) ∷ lowByte (r .set / 256)
+      ∷ replicate 13 0 ≡ recordArray r
+  unfolding recordArray bytesOf sizeOf bodyLength
   bytes-join q =
-      rw q (ap (λ (x : ℕ). 5 ∷ lowByte (r .left) ∷ lowByte (r .right) ∷ x ∷ lowByte (r .set / 256) ∷ [])
+      rw q (ap (λ (x : ℕ). 5 ∷ lowByte (r .left) ∷ lowByte (r .right) ∷ x ∷ lowByte (r .set / 256) ∷ replicate 13 0)
       (low-twice (r .set)))
 
   pub bytes-hide : r .kind ≡ hideKind
-      → take (sizeOf (r .kind)) (lowByte (r .kind) ∷ lowByte (r .left) ∷ lowByte (r .set) ∷ lowByte (r .set / 256) ∷ z)
-      ≡ map lowByte (bytesOf r)
-  unfolding bytesOf sizeOf bodyLength
-  bytes-hide q = rw q (ap (λ (x : ℕ). 6 ∷ lowByte (r .left) ∷ x ∷ lowByte (r .set / 256) ∷ []) (low-twice (r .set)))
+      → lowByte (r .kind) ∷ lowByte (r .left) ∷ lowByte (r .set) ∷ lowByte (r .set / 256) ∷ 0 ∷ replicate 13 0
+      ≡ recordArray r
+  unfolding recordArray bytesOf sizeOf bodyLength
+  bytes-hide q =
+      rw q (ap (λ (x : ℕ). 6 ∷ lowByte (r .left) ∷ x ∷ lowByte (r .set / 256) ∷ replicate 14 0) (low-twice (r .set)))
+
+  targets-all : length (r .targets) ≤ 16 → take 16 (map lowByte (r .targets)) ≡ map lowByte (r .targets)
+  targets-all few =
+      let long : length (map lowByte (r .targets)) ≡ length (r .targets) = length-map (r .targets) lowByte in
+      take-all 16 (map lowByte (r .targets)) (omega arith)
+
+  -- sixteen targets behind the kind and the operand
+  pub bytes-rename : r .kind ≡ renameKind → length (r .targets) ≡ 16
+      → paste (lowByte (r .kind) ∷ lowByte (r .left) ∷ 0 ∷ 0 ∷ 0 ∷ replicate 13 0) 2 (map lowByte (r .targets)) 16
+      ≡ recordArray r
+  unfolding recordArray bytesOf sizeOf bodyLength
+  bytes-rename q l = rw (q, targets-all (omega arith))
 
   pub bytes-end : r .kind ≡ endKind
-      → take (sizeOf (r .kind)) (lowByte (r .kind) ∷ lowByte (r .number) ∷ lowByte (r .number / 256) ∷ z)
-      ≡ map lowByte (bytesOf r)
-  unfolding bytesOf sizeOf bodyLength
-  bytes-end q = rw q (ap (λ (x : ℕ). 8 ∷ x ∷ lowByte (r .number / 256) ∷ []) (low-twice (r .number)))
+      → lowByte (r .kind) ∷ lowByte (r .number) ∷ lowByte (r .number / 256) ∷ 0 ∷ 0 ∷ replicate 13 0 ≡ recordArray r
+  unfolding recordArray bytesOf sizeOf bodyLength
+  bytes-end q = rw q (ap (λ (x : ℕ). 8 ∷ x ∷ lowByte (r .number / 256) ∷ replicate 15 0) (low-twice (r .number)))
 
-  -- a header, a machine or a leaf; a record of no kind has its kind's byte alone
-  pub bytes-number : (r .kind ≡ stepKind → ⊥) → (r .kind ≡ joinKind → ⊥) → (r .kind ≡ hideKind → ⊥)
-      → (r .kind ≡ renameKind → ⊥) → (r .kind ≡ endKind → ⊥)
-      → take (sizeOf (r .kind)) (lowByte (r .kind) ∷ lowByte (r .number) ∷ z) ≡ map lowByte (bytesOf r)
+  -- a record of no kind is its kind's byte alone
+  kind-alone : sizeOf (r .kind) ≡ 1 → bytesOf r ≡ r .kind ∷ []
   unfolding bytesOf sizeOf bodyLength
-  bytes-number a b c d e =
-      at (ℕ-discrete (r .kind) headerKind) (ℕ-discrete (r .kind) machineKind) (ℕ-discrete (r .kind) leafKind)
+  kind-alone s =
+      simp (
+        none headerKind (omega arith),
+        none machineKind (omega arith),
+        none leafKind (omega arith),
+        none stepKind (omega arith),
+        none joinKind (omega arith),
+        none hideKind (omega arith),
+        none renameKind (omega arith),
+        none endKind (omega arith),
+      )
     where
-      at : Dec (r .kind ≡ headerKind) → Dec (r .kind ≡ machineKind) → Dec (r .kind ≡ leafKind)
-          → take (sizeOf (r .kind)) (lowByte (r .kind) ∷ lowByte (r .number) ∷ z) ≡ map lowByte (bytesOf r)
-      at (yes q) y x = rw q
-      at (no p) (yes q) x = rw q
-      at (no p) (no p′) (yes q) = rw q
-      at (no p) (no p′) (no p″) =
-          simp (
-            ne-eqb (r .kind) headerKind p,
-            ne-eqb (r .kind) machineKind p′,
-            ne-eqb (r .kind) leafKind p″,
-            ne-eqb (r .kind) stepKind a,
-            ne-eqb (r .kind) joinKind b,
-            ne-eqb (r .kind) hideKind c,
-            ne-eqb (r .kind) renameKind d,
-            ne-eqb (r .kind) endKind e,
-          )
-          (ap (λ (n : ℕ). take n (lowByte (r .kind) ∷ lowByte (r .number) ∷ z)) small)
-        where
-          small : sizeOf (r .kind) ≡ 1
-          small = other-size (r .kind) p p′ a p″ b c d e
+      none : (j : ℕ) → 2 ≤ sizeOf j → eqb (r .kind) j ≡ false
+      none j l = ne-eqb (r .kind) j (λ q. let z : sizeOf j ≡ 1 = rw q at s in omega arith)
 
--- a rename: sixteen targets behind the kind and the operand
-pub bytes-rename : (r : Record) (z : List ℕ) → r .kind ≡ renameKind → length (r .targets) ≡ 16
-    → take (sizeOf (r .kind)) (paste (lowByte (r .kind) ∷ lowByte (r .left) ∷ z) 2 (map lowByte (r .targets)) 16)
-    ≡ map lowByte (bytesOf r)
-unfolding bytesOf sizeOf bodyLength
-bytes-rename r z q l =
-    let long : length (map lowByte (r .targets)) ≡ 16 = length-map (r .targets) lowByte ∙ l in
-    let all : take 16 (map lowByte (r .targets)) ≡ map lowByte (r .targets) =
-    take-all 16 (map lowByte (r .targets)) (omega arith) in
-    rw (q, all) (ap (λ (xs : List ℕ). 7 ∷ lowByte (r .left) ∷ xs)
-    (take-at (map lowByte (r .targets)) (drop 16 z) 16 long))
+  pub bytes-other : sizeOf (r .kind) ≡ 1 → lowByte (r .kind) ∷ 0 ∷ 0 ∷ 0 ∷ 0 ∷ replicate 13 0 ≡ recordArray r
+  unfolding recordArray
+  bytes-other s = rw (s, kind-alone s)
+
+  -- a header, a machine or a leaf
+  pub bytes-number : (r .kind ≡ stepKind → ⊥) → (r .kind ≡ joinKind → ⊥) → (r .kind ≡ hideKind → ⊥)
+      → (r .kind ≡ renameKind → ⊥) → (r .kind ≡ endKind → ⊥) → (sizeOf (r .kind) ≡ 1 → ⊥)
+      → lowByte (r .kind) ∷ lowByte (r .number) ∷ 0 ∷ 0 ∷ 0 ∷ replicate 13 0 ≡ recordArray r
+  unfolding recordArray bytesOf sizeOf bodyLength
+  bytes-number a b c d e p =
+      let some = some-kind (r .kind) p in
+      each-kind
+      (λ k. r .kind ≡ k → lowByte (r .kind) ∷ lowByte (r .number) ∷ 0 ∷ 0 ∷ 0 ∷ replicate 13 0 ≡ recordArray r)
+      (λ q. rw q) (λ q. rw q) (λ q. absurd (a q)) (λ q. rw q) (λ q. absurd (b q)) (λ q. absurd (c q))
+      (λ q. absurd (d q)) (λ q. absurd (e q)) (r .kind) (some .0) (some .1) refl
+
+  front-alone : sizeOf (r .kind) ≡ 1 → take (sizeOf (r .kind)) (recordArray r) ≡ map lowByte (bytesOf r)
+  unfolding recordArray
+  front-alone s = rw (s, kind-alone s)
+
+  -- the array's front is the record's bytes
+  pub array-front : length (r .targets) ≤ 16 → take (sizeOf (r .kind)) (recordArray r) ≡ map lowByte (bytesOf r)
+  unfolding recordArray bytesOf sizeOf bodyLength
+  array-front few = at (ℕ-discrete (sizeOf (r .kind)) 1)
+    where
+      at : Dec (sizeOf (r .kind) ≡ 1) → take (sizeOf (r .kind)) (recordArray r) ≡ map lowByte (bytesOf r)
+      at (yes s) = front-alone s
+      at (no p) =
+          let some = some-kind (r .kind) p in
+          each-kind (λ k. r .kind ≡ k → take (sizeOf (r .kind)) (recordArray r) ≡ map lowByte (bytesOf r))
+          (λ q. rw q) (λ q. rw q) (λ q. rw q) (λ q. rw q) (λ q. rw q) (λ q. rw q)
+          (λ q. rw (q, append-nil (map lowByte (r .targets)), targets-all few)) (λ q. rw q)
+          (r .kind) (some .0) (some .1) refl
 
 -- what holds of a record of each kind holds of one that is handed in
 pub handed-any : (P : Record → Type 0) (used k : ℕ) (xs : List ℕ)

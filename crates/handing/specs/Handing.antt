@@ -1,15 +1,16 @@
--- A record as it is handed to the writer, a kind and its numbers, and as it is handed on. Document 01, "The writer adds
--- one record ..". Assumes nothing.
+-- A record as it is handed to the writer, a kind and its numbers, as it is handed on, and as bytes to be stored.
+-- Document 01, "The writer adds one record ..". Assumes nothing.
 use mathlib.Core.Bool.{cond}
-use mathlib.Core.List.{List, _∷_}
-use Prim.Native.Nat.{ℕ, _%_}
+use mathlib.Core.List.{List, _∷_, _++_, map}
+use Prim.Native.Nat.{ℕ, _-_, _%_}
 use lib.Dec.{eqb}
 use lib.ListN.{take, drop, getD, replicate}
 use Rattle.records.specs.declared.Record.{Record}
 use Rattle.records.specs.Kinds.{headerKind, machineKind, stepKind, leafKind, joinKind, hideKind, renameKind, endKind}
 use Rattle.records.specs.Records.{headerRecord, machineRecord, stepRecord, leafRecord, joinRecord, hideRecord}
 use Rattle.records.specs.Records.{renameRecord, endRecord, otherRecord}
-use Rattle.records.specs.Kinds.{is}
+use Rattle.records.specs.Kinds.{is, sizeOf}
+use Rattle.decoding.specs.Bytes.{bytesOf}
 
 -- a number as one byte of it, the lowest
 abbrev pub lowByte : ℕ → ℕ
@@ -40,3 +41,7 @@ numbersOf r =
     (cond (is hideKind r) (r .left ∷ r .set ∷ replicate 15 0)
     (cond (is renameKind r) (r .left ∷ r .targets)
     (r .number ∷ replicate 16 0))))
+
+-- the low bytes of record r's encoding, then zeros, eighteen in all
+unfoldable pub recordArray : Record → List ℕ
+recordArray r = map lowByte (bytesOf r) ++ replicate (18 - sizeOf (r .kind)) 0

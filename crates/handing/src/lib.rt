@@ -4,10 +4,7 @@ ghost use mathlib.Core.List.{_∷_, map};
 ghost use Prim.Native.Nat.{_<_, _%_, _^_};
 ghost use lib.ListN.{length, take, drop, replicate};
 ghost use lib.Seq.{paste};
-ghost use Rattle.records.specs.Kinds.{sizeOf};
-ghost use Rattle.decoding.specs.Bytes.{bytesOf};
-ghost use Rattle.handing.specs.Handing.{numbersOf};
-ghost use Rattle.handing.specs.Handing.{lowByte, handedIn};
+ghost use Rattle.handing.specs.Handing.{lowByte, handedIn, numbersOf, recordArray};
 use records::Record;
 
 // The sixteen numbers behind the first.
@@ -126,7 +123,7 @@ fn with_targets(b: [u8; 18], targets: [u32; 16]) -> [u8; 18]
 
 // The bytes of a record whose numbers are in range, in front; then zeros.
 pub fn record_bytes(r: Record) -> [u8; 18]
-    ensures { λ x. ⌜ (take (sizeOf (r .kind)) x ≡ map lowByte (bytesOf r)) × (r .set < 2 ^ 32) ⌝ }
+    ensures { λ x. ⌜ (x ≡ recordArray r) × (r .set < 2 ^ 32) ⌝ }
 {
     let k = low_byte(r.kind);
     if r.kind == records::STEP {
@@ -156,6 +153,9 @@ pub fn record_bytes(r: Record) -> [u8; 18]
     }
     if r.kind == records::END {
         return five_bytes(k, low_byte(r.number), low_byte(r.number / 256), 0, 0);
+    }
+    if records::size_of(r.kind) == 1 {
+        return five_bytes(k, 0, 0, 0, 0);
     }
     five_bytes(k, low_byte(r.number), 0, 0, 0)
 }

@@ -1,7 +1,7 @@
 use native.Mathlib.Omega.{arith}
-use mathlib.Core.List.{_∷_}
-use lib.ListN.{replicate}
-use Rattle.handing.proofs.Handing.{bytes-step, bytes-join, bytes-hide, bytes-rename, bytes-end, bytes-number}
+use mathlib.Core.Path.{sym, _∙_}
+use Rattle.handing.proofs.Handing.{bytes-step, bytes-join, bytes-hide, bytes-rename, bytes-end, bytes-other}
+use Rattle.handing.proofs.Handing.{bytes-number}
 use borrow.Author.Needs.{needs}
 use Rattle.handing.proofs.record_bytes.Statement.{statement}
 use Rattle.handing.proofs.record_bytes.Tie as tie
@@ -30,7 +30,7 @@ returns c = (
     c .before .before .low-byte3 .ensures,
     c .before .low-byte4 .ensures,
   )
-      (bytes-step (c .before .before .before .before .before .before .before .args .r) (0 ∷ replicate 13 0)
+      (bytes-step (c .before .before .before .before .before .before .before .args .r)
       (c .before .before .before .before .if1 .taken)),
   omega arith,
 )
@@ -60,7 +60,7 @@ returns-2 c = (
     c .before .before .before .low-byte7 .ensures,
     c .before .low-byte8 .ensures,
   )
-      (bytes-join (c .before .before .before .before .before .before .before .before .before .before .before .args .r) (replicate 13 0) (c .before .before .before .before .before .before .if2 .taken)),
+      (bytes-join (c .before .before .before .before .before .before .before .before .before .before .before .args .r) (c .before .before .before .before .before .before .if2 .taken)),
   omega arith,
 )
 
@@ -85,7 +85,7 @@ returns-3 c = (
     c .before .before .before .low-byte10 .ensures,
     c .before .low-byte11 .ensures,
   )
-      (bytes-hide (c .before .before .before .before .before .before .before .before .before .before .before .before .args .r) (0 ∷ replicate 13 0) (c .before .before .before .before .before .if3 .taken)),
+      (bytes-hide (c .before .before .before .before .before .before .before .before .before .before .before .before .args .r) (c .before .before .before .before .before .if3 .taken)),
   omega arith,
 )
 
@@ -105,7 +105,7 @@ returns-4 c = (
     c .before .five-bytes4 .ensures,
     c .before .before .before .before .before .before .before .before .before .before .before .before .low-byte .ensures,
     c .before .before .low-byte12 .ensures,
-  ) (bytes-rename (c .before .before .before .before .before .before .before .before .before .before .before .before .before .args .r) (0 ∷ 0 ∷ 0 ∷ replicate 13 0) (c .before .before .before .before .if4 .taken) (c .with-targets .ensures .1)),
+  ) (bytes-rename (c .before .before .before .before .before .before .before .before .before .before .before .before .before .args .r) (c .before .before .before .before .if4 .taken) (c .with-targets .ensures .1)),
   omega arith,
 )
 
@@ -125,23 +125,36 @@ returns-5 c = (
     c .before .before .before .before .before .before .before .before .before .before .before .before .before .before .low-byte .ensures,
     c .before .before .before .low-byte13 .ensures,
     c .before .low-byte14 .ensures,
-  ) (bytes-end (c .before .before .before .before .before .before .before .before .before .before .before .before .before .before .before .args .r) (0 ∷ 0 ∷ replicate 13 0) (c .before .before .before .before .if5 .taken)),
+  ) (bytes-end (c .before .before .before .before .before .before .before .before .before .before .before .before .before .before .before .args .r) (c .before .before .before .before .if5 .taken)),
   omega arith,
 )
 
-low-byte-requires-15 : tie.Need-low-byte-requires-15
-low-byte-requires-15 c κs = search needs
+size-of-requires : tie.Need-size-of-requires
+size-of-requires c κs = search needs
 
 five-bytes-requires-6 : tie.Need-five-bytes-requires-6
 five-bytes-requires-6 c κs = search needs
 
 returns-6 : tie.Need-returns-6
 returns-6 c = (
+  rw (c .five-bytes6 .ensures, c .before .before .before .before .before .before .before .before .before .before .before .before .before .low-byte .ensures)
+      (bytes-other (c .before .before .before .before .before .before .before .before .before .before .before .before .before .before .args .r) (sym (c .before .before .size-of .ensures) ∙ c .before .if6 .taken)),
+  omega arith,
+)
+
+low-byte-requires-15 : tie.Need-low-byte-requires-15
+low-byte-requires-15 c κs = search needs
+
+five-bytes-requires-7 : tie.Need-five-bytes-requires-7
+five-bytes-requires-7 c κs = search needs
+
+returns-7 : tie.Need-returns-7
+returns-7 c = (
   rw (
-    c .five-bytes6 .ensures,
-    c .before .before .before .before .before .before .before .before .before .before .before .before .low-byte .ensures,
+    c .five-bytes7 .ensures,
+    c .before .before .before .before .before .before .before .before .before .before .before .before .before .before .low-byte .ensures,
     c .before .low-byte15 .ensures,
-  ) (bytes-number (c .before .before .before .before .before .before .before .before .before .before .before .before .before .args .r) (0 ∷ 0 ∷ 0 ∷ replicate 13 0) (c .before .before .before .before .before .before .before .before .before .before .if1 .left) (c .before .before .before .before .before .before .before .before .if2 .left) (c .before .before .before .before .before .before .if3 .left) (c .before .before .before .before .if4 .left) (c .before .before .if5 .left)),
+  ) (bytes-number (c .before .before .before .before .before .before .before .before .before .before .before .before .before .before .before .args .r) (c .before .before .before .before .before .before .before .before .before .before .before .before .if1 .left) (c .before .before .before .before .before .before .before .before .before .before .if2 .left) (c .before .before .before .before .before .before .before .before .if3 .left) (c .before .before .before .before .before .before .if4 .left) (c .before .before .before .before .if5 .left) (λ s. c .before .before .if6 .left (c .before .before .before .size-of .ensures ∙ s))),
   omega arith,
 )
 
@@ -174,6 +187,9 @@ record-bytes-spec =
     low-byte-requires-14
     five-bytes-requires-5
     returns-5
-    low-byte-requires-15
+    size-of-requires
     five-bytes-requires-6
-    returns-6)
+    returns-6
+    low-byte-requires-15
+    five-bytes-requires-7
+    returns-7)

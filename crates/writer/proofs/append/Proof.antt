@@ -5,7 +5,7 @@ use mathlib.Core.Path.{sym, _∙_}
 use lib.ListN.{length}
 use Rattle.writer.proofs.Storing.{stored-fits, stored-is}
 use Rattle.writer.proofs.Fitting.{InForm}
-use Rattle.handing.proofs.Handing.{handed-targets}
+use Rattle.handing.proofs.Handing.{handed-targets, array-front}
 use Rattle.writer.proofs.Answers.{success-out, over-buffer, over-file, rejected, appended}
 use Rattle.handing.specs.Handing.{handedIn}
 use Rattle.writer.proofs.append.Statement.{statement}
@@ -93,7 +93,7 @@ returns-4 c = let b = c .before .before .before .before .before .before .before 
     let form : InForm r = record { set-word = word; targets-few = few } in
     rw q at (appended b used r (omega arith) (omega arith) _ _ e
     (c .before .before .store .ensures ∙ stored-is b used r _ s (omega arith) (omega arith) form _
-    (c .before .before .before .record-bytes .ensures .0)))
+    (rw (c .before .before .before .record-bytes .ensures .0) (array-front r few))))
 
 pub append-spec : {M : Type 1} → statement M
 append-spec =
