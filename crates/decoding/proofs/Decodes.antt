@@ -1,10 +1,6 @@
 -- What a record's encoding decodes to is the record, whatever stands behind it.
 -- Assumes nothing.
-use mathlib.Core.Path.{◌≡◌, refl, ap}
-use mathlib.Core.List.{List, [], ◌∷◌, ◌++◌}
-use Prim.Native.Nat.{ℕ}
-use native.Mathlib.Omega.{arith}
-use lib.ListN.{length}
+use Rattle.std.proofs.Common.{◌≡◌, refl, ap, List, [], ◌∷◌, ◌++◌, ℕ, arith, length}
 use Rattle.records.specs.declared.Record.{Record}
 use Rattle.records.specs.Kinds.{body_length, size_of}
 use Rattle.decoding.specs.Bytes.{targets_in, record_of, first_record, bytes_of}

@@ -1,10 +1,6 @@
 -- Decoding: the record that stands first is decoded from its own bytes alone.
 -- Assumes nothing.
-use mathlib.Core.Path.{◌≡◌, sym, ap, ◌∙◌}
-use mathlib.Core.List.{List}
-use Prim.Native.Nat.{ℕ, ◌≤◌}
-use lib.ListN.{length, take}
-use lib.Seq.{take_all}
+use Rattle.std.proofs.Common.{◌≡◌, sym, ap, ◌∙◌, List, ℕ, ◌≤◌, length, take, take_all}
 use Rattle.records.specs.declared.Record.{Record}
 use Rattle.records.specs.Kinds.{size_of}
 use Rattle.decoding.specs.Bytes.{byte, record_of, first_record}

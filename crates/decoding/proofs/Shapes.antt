@@ -1,14 +1,9 @@
 -- A record that was decoded from bytes has zeros for the numbers that its kind doesn't use, a set of two bytes,
 -- sixteen targets. Assumes nothing.
-use mathlib.Core.Path.{◌≡◌, refl, ◌∙◌}
-use mathlib.Core.Bool.{Bool, true, false, cond}
-use mathlib.Core.List.{List}
-use Prim.Native.Nat.{ℕ, ◌<◌}
-use native.Mathlib.Omega.{arith}
+use Rattle.std.proofs.Common.{◌≡◌, refl, ◌∙◌, Bool, true, false, cond, List, ℕ, ◌<◌, arith, eqb, length, take}
+use Rattle.std.proofs.Common.{length-take, get_or-take}
 use native.Mathlib.Decide.{dec_lt}
-use lib.Dec.{eqb}
-use lib.ListN.{length, take, length-take, get_or-eq_default}
-use lib.Seq.{get_or-take}
+use lib.ListN.{get_or-eq_default}
 use Rattle.records.specs.declared.Record.{Record}
 use Rattle.records.specs.Kinds.{size_of, is}
 use Rattle.decoding.specs.Bytes.{byte, AreBytes, two, targets_in, record_of, first_record}

@@ -1,8 +1,6 @@
 -- Each function of this crate is settled by its contract: two results that meet it are equal.
 -- Assumes nothing.
-use mathlib.Core.Path.{◌≡◌}
-use mathlib.Core.List.{List}
-use Prim.Native.Nat.{ℕ}
+use Rattle.std.proofs.Common.{◌≡◌, List, ℕ}
 use Rattle.events.proofs.Unique.{settled}
 use Rattle.records.specs.declared.Record.{Record}
 use Rattle.decoding.specs.Bytes.{byte, two, targets_in, record_of, first_record}

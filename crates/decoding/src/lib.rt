@@ -1,4 +1,6 @@
 // The record whose bytes stand first in a part of a file.
+#![tactic(auto)]
+
 ghost use Rattle.std.specs.Prelude.{◌≡◌, ◌<◌};
 ghost use Rattle.decoding.specs.Bytes.{byte, two, targets_in, record_of, first_record};
 

@@ -1,9 +1,7 @@
 -- What the kit's `mir.Facts` lacks on tests, alone and joined by "or" and "and".
 -- Assumes nothing.
-use mathlib.Core.Path.{◌≡◌, refl}
-use mathlib.Core.Bool.{Bool, true, false, ◌&&◌, ◌||◌}
-use Prim.Native.Nat.{ℕ}
-use lib.Dec.{T, eqb, eqb→eq, eqb_refl}
+use Rattle.std.proofs.Common.{◌≡◌, refl, Bool, true, false, ◌&&◌, ◌||◌, ℕ, T, eqb, eqb→eq}
+use lib.Dec.{eqb_refl}
 
 pub or_left : (a b : Bool) → T a → T (a || b)
 or_left true b t = tt

@@ -1,19 +1,16 @@
 -- The operations on sets are the machine's: or, and, not, shift, subtraction of one, and the count of ones.
 -- Every law is over n, or over a width k of at least n. Assumes nothing.
-use mathlib.Core.Path.{◌≡◌, refl, sym, ap, ◌∙◌}
-use mathlib.Core.Bool.{Bool, true, false, not, ◌&&◌, ◌||◌}
-use mathlib.Core.Logic.{◌⊎◌, inl, inr}
-use Prim.Native.Nat.{ℕ, zero, suc, ◌+◌, ◌-◌, ◌/◌, ◌%◌, ◌^◌, ◌<◌, ◌≤◌, zero-le}
-use native.Mathlib.Omega.{arith}
+use Rattle.std.proofs.Common.{◌≡◌, refl, sym, ap, ◌∙◌, Bool, true, false, not, ◌&&◌, ◌||◌, ◌⊎◌, inl, inr, ℕ}
+use Rattle.std.proofs.Common.{zero, suc, ◌+◌, ◌-◌, ◌/◌, ◌%◌, ◌^◌, ◌<◌, ◌≤◌, zero-le, arith, not-suc-le-zero}
+use Rattle.std.proofs.Common.{le_of_suc-le-suc, div-one, pow-suc, one-add, ne_eqb, eqb, lit<, bit_and, bit_or}
+use Rattle.std.proofs.Common.{pow_pos, shr-shr}
 use native.Mathlib.Decide.{ℕ_discrete}
-use native.Mathlib.Nat.{not-suc-le-zero, le_of_suc-le-suc, sub-zero, div-one, pow-suc}
-use native.Mathlib.Numerals.{one-add}
-use borrow.Author.Tests.{ne_eqb}
-use lib.Dec.{eqb, eqb-zero-suc, eqb-suc-zero, eqb-suc-suc, lit<}
+use native.Mathlib.Nat.{sub-zero}
+use lib.Dec.{eqb-zero-suc, eqb-suc-zero, eqb-suc-suc}
 use lib.Arith.{lt-one, le-zero}
-use lib.Bits.{bit_and, bit_or, or_shr, or_mod, and_shr, and_mod, and_mask, or_lt, and_le_l}
+use lib.Bits.{or_shr, or_mod, and_shr, and_mod, and_mask, or_lt, and_le_l}
 use lib.Count.{ones, ones_step, ones-le}
-use lib.Pow.{pow_pos, pow-lt, ones_lt, shr-shr}
+use lib.Pow.{pow-lt, ones_lt}
 use Rattle.events.specs.Sets.{has, digit, set_of, empty, full, single, union, intersection, difference, complement}
 use Rattle.events.specs.Sets.{disjoint, included, count}
 use Rattle.events.proofs.Members.{has_ext, set_of_has, set_of_below}

@@ -1,15 +1,11 @@
 -- A set is known by its members, and a comprehension `set_of n p` has just the events below n that pass p.
 -- Every law is over n. Assumes nothing.
-use mathlib.Core.Path.{◌≡◌, refl, sym, ap₂, ◌∙◌}
-use mathlib.Core.Bool.{Bool, true, false, not, ◌||◌, true≢false, false≢true}
-use mathlib.Core.Logic.{◌≢◌, ◌⊎◌, inl, inr}
-use Prim.Native.Nat.{ℕ, zero, suc, ◌+◌, ◌*◌, ◌/◌, ◌%◌, ◌^◌, ◌<◌}
-use native.Mathlib.Omega.{arith}
+use Rattle.std.proofs.Common.{◌≡◌, refl, sym, ap₂, ◌∙◌, Bool, true, false, not, ◌||◌, true≢false, ◌≢◌, ◌⊎◌, inl}
+use Rattle.std.proofs.Common.{inr, ℕ, zero, suc, ◌+◌, ◌*◌, ◌/◌, ◌%◌, ◌^◌, ◌<◌, arith, not-suc-le-zero}
+use Rattle.std.proofs.Common.{le_of_suc-le-suc, T, eqb, eq-eqb, ne_eqb}
+use mathlib.Core.Bool.{false≢true}
 use native.Mathlib.Decide.{ℕ_discrete}
-use native.Mathlib.Nat.{not-suc-le-zero, le_of_suc-le-suc}
-use lib.Dec.{T, eqb}
 use mir.Facts.{or_yes}
-use borrow.Author.Tests.{eq-eqb, ne_eqb}
 use Rattle.events.specs.Sets.{has, digit, set_of, any_below, is_empty}
 use Rattle.events.proofs.Booleans.{or_left, or_right, same_test}
 

@@ -1,10 +1,7 @@
 -- What each operation on sets has as its members, over n.
 -- Assumes nothing.
-use mathlib.Core.Path.{◌≡◌, refl}
-use mathlib.Core.Bool.{Bool, true, false, not, ◌&&◌, ◌||◌}
-use mathlib.Core.Logic.{◌≢◌, ◌⊎◌, ⊎_elim}
-use Prim.Native.Nat.{ℕ, ◌<◌}
-use lib.Dec.{T, T_not, not_T}
+use Rattle.std.proofs.Common.{◌≡◌, refl, Bool, true, false, not, ◌&&◌, ◌||◌, ◌≢◌, ◌⊎◌, ⊎_elim, ℕ, ◌<◌, T, T_not}
+use lib.Dec.{not_T}
 use mir.Facts.{and_yes, yes_and, or_yes}
 use Rattle.events.specs.Sets.{has, any_below, empty, full, union, intersection, difference, complement}
 use Rattle.events.specs.Sets.{image, all_sources, Included}

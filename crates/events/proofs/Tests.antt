@@ -1,10 +1,6 @@
 -- The tests on sets decide the facts that they are named after, over n.
 -- Assumes nothing.
-use mathlib.Core.Path.{◌≡◌, refl}
-use mathlib.Core.Bool.{Bool, true, false, not, ◌&&◌}
-use mathlib.Core.Logic.{◌↔◌}
-use Prim.Native.Nat.{ℕ, ◌<◌, ◌^◌}
-use lib.Dec.{T, T_not, eqb→eq}
+use Rattle.std.proofs.Common.{◌≡◌, refl, Bool, true, false, not, ◌&&◌, ◌↔◌, ℕ, ◌<◌, ◌^◌, T, T_not, eqb→eq}
 use mir.Facts.{and_yes, yes_eqb}
 use Rattle.events.specs.Sets.{has, difference, disjoint, included, Included}
 use Rattle.events.proofs.Members.{member_below, member_nonzero, set_of_empty}

@@ -1,8 +1,6 @@
 -- Each operation of the set type is settled by its contract: two results that meet it are equal.
 -- Assumes nothing.
-use mathlib.Core.Path.{◌≡◌, sym, ◌∙◌}
-use mathlib.Core.Bool.{Bool}
-use Prim.Native.Nat.{ℕ, min}
+use Rattle.std.proofs.Common.{◌≡◌, sym, ◌∙◌, Bool, ℕ, min}
 use Rattle.events.specs.Sets.{room, has, full, single, union, intersection, difference, complement}
 use Rattle.events.specs.Sets.{disjoint, included, is_empty, count}
 

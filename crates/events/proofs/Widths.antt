@@ -1,13 +1,8 @@
 -- On sets of n events an operation with room for k events, k at least n, gives what it gives with room for n.
 -- Assumes nothing.
-use mathlib.Core.Path.{◌≡◌, sym, ap, ◌∙◌}
-use mathlib.Core.Bool.{Bool, false, not, ◌&&◌, ◌||◌}
-use Prim.Native.Nat.{ℕ, zero, suc, ◌+◌, ◌*◌, ◌^◌, ◌<◌, ◌≤◌, zero-le}
-use native.Mathlib.Omega.{arith}
+use Rattle.std.proofs.Common.{◌≡◌, sym, ap, ◌∙◌, Bool, false, not, ◌&&◌, ◌||◌, ℕ, zero, suc, ◌+◌, ◌*◌, ◌^◌, ◌<◌}
+use Rattle.std.proofs.Common.{◌≤◌, zero-le, arith, not-suc-le-zero, le_of_suc-le-suc, eqb, pow_mono}
 use native.Mathlib.Decide.{ℕ_discrete}
-use native.Mathlib.Nat.{not-suc-le-zero, le_of_suc-le-suc}
-use lib.Dec.{eqb}
-use lib.Pow.{pow_mono}
 use Rattle.events.specs.Sets.{has, digit, set_of, any_below, single, union, intersection, difference}
 use Rattle.events.specs.Sets.{disjoint, included, count}
 use Rattle.events.proofs.Members.{set_of_empty}

@@ -1,9 +1,11 @@
 // Sets of events by value, with room for 32 events: bit e of the number for event e.
+#![tactic(auto)]
+
 ghost use Rattle.std.specs.Prelude.{◌≡◌, min};
 ghost use Rattle.events.specs.Sets.{room, has, is_empty, full, single, union, intersection, difference};
 ghost use Rattle.events.specs.Sets.{complement, disjoint, included, count};
 
-#[derive(Drop)]
+#[derive(Clone, Copy)]
 pub struct EventSet {
     pub bits: u32,
 }

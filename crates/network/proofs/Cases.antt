@@ -1,11 +1,8 @@
 -- Document 01's worked cases 1 to 10, of the definitions, by computing the whole table; and that case 10's network is
 -- free of livelock though the verdict is inconclusive. Assumes nothing.
-use mathlib.Core.Path.{◌≡◌, refl, sym}
-use mathlib.Core.Logic.{◌⊎◌, inl, inr, ⊎_elim}
+use Rattle.std.proofs.Common.{◌≡◌, refl, sym, ◌⊎◌, inl, inr, ⊎_elim, [], ℕ, arith}
 use mathlib.Core.List.Memᴰ
-use mathlib.Core.List.{[], flat_map, Memᴰ}
-use Prim.Native.Nat.{ℕ}
-use native.Mathlib.Omega.{arith}
+use mathlib.Core.List.{flat_map, Memᴰ}
 use Rattle.network.proofs.Labels.{silent≢event}
 use Rattle.network.proofs.Walks.{walk_keeps}
 use Rattle.events.specs.Sets.{has, set_of, any_below}

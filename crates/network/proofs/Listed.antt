@@ -1,10 +1,7 @@
 -- What is true of every listed pair: its sets are of events below n, its C is Σ−F, and its F is not empty where no flag
 -- is up at or below the node. So the rules' own pairs cover. Assumes nothing.
-use mathlib.Core.Path.{◌≡◌, sym, ◌∙◌}
-use mathlib.Core.Bool.{Bool, true, false}
-use mathlib.Core.Logic.{◌≢◌, ◌⊎◌, inl, inr}
-use Prim.Native.Nat.{ℕ, ◌<◌, ◌^◌}
-use lib.Dec.{T, eqb_refl}
+use Rattle.std.proofs.Common.{◌≡◌, sym, ◌∙◌, Bool, true, false, ◌≢◌, ◌⊎◌, inl, inr, ℕ, ◌<◌, ◌^◌, T}
+use lib.Dec.{eqb_refl}
 use Rattle.events.specs.Sets.{has, empty, union, intersection, difference, complement, image, all_sources}
 use Rattle.events.proofs.Members.{member_nonzero, nonzero_member, member_below, below_of_members, set_of_below}
 use Rattle.events.proofs.Members.{members_ext}

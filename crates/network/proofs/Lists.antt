@@ -1,12 +1,10 @@
 -- The two forms of the rules agree: the computed list has exactly the listed pairs, the computed flag is the rules'
 -- flag. Assumes nothing.
-use mathlib.Core.Path.{◌≡◌, refl, ap, ◌∙◌}
-use mathlib.Core.Bool.{Bool, not, ◌&&◌}
-use mathlib.Core.Logic.{◌≢◌, inl, inr, ⊎_elim, ◌↔◌}
+use Rattle.std.proofs.Common.{◌≡◌, refl, ap, ◌∙◌, Bool, not, ◌&&◌, ◌≢◌, inl, inr, ⊎_elim, ◌↔◌, List, map, ℕ, ◌^◌}
+use Rattle.std.proofs.Common.{◌<◌, ◌≤◌, T, T_not, eqb→eq}
 use mathlib.Core.List.Memᴰ
-use mathlib.Core.List.{List, map, flat_map}
-use Prim.Native.Nat.{ℕ, ◌^◌, ◌<◌, ◌≤◌}
-use lib.Dec.{T, T_not, not_T, eqb→eq, eqb_refl}
+use mathlib.Core.List.{flat_map}
+use lib.Dec.{not_T, eqb_refl}
 use mir.Facts.{and_yes, yes_and}
 use Rattle.events.specs.Sets.{empty, is_empty, set_of, union, intersection, difference, complement, disjoint, included}
 use Rattle.events.specs.Sets.{image, all_sources}

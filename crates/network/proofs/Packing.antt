@@ -1,11 +1,7 @@
 -- Packing a pair into one entry and taking it out again: F × 65536 + C, for C below 65536.
 -- Assumes nothing.
-use mathlib.Core.Path.{◌≡◌}
-use Prim.Native.Nat.{ℕ, ◌^◌, ◌<◌, ◌≤◌}
-use native.Mathlib.Nat.{div-add-mod'}
-use native.Mathlib.Omega.{arith}
+use Rattle.std.proofs.Common.{◌≡◌, ℕ, ◌^◌, ◌<◌, ◌≤◌, div-add-mod', arith, pow_mono}
 use lib.Arith.{digits_div, digits_mod}
-use lib.Pow.{pow_mono}
 use Rattle.network.specs.Lists.{pack, first_of, second_of}
 
 pub first_pack : (F C : ℕ) → C < 2 ^ 16 → first_of (pack F C) ≡ F

@@ -1,13 +1,7 @@
 -- Where the pass over a model's nodes stops: nowhere, or at the first node that gives anything, by which of the three
 -- tests. Assumes nothing.
-use mathlib.Core.Path.{◌≡◌, refl}
-use mathlib.Core.Bool.{Bool, true, false, cond}
-use mathlib.Core.Logic.{◌⊎◌, inl, inr}
-use mathlib.Core.List.{List, [], ◌∷◌}
-use Prim.Native.Nat.{ℕ, zero, suc, ◌+◌, ◌<◌}
-use native.Mathlib.Omega.{arith}
-use native.Mathlib.Nat.{not-suc-le-zero, le_of_suc-le-suc}
-use lib.ListN.{get_or, length}
+use Rattle.std.proofs.Common.{◌≡◌, refl, Bool, true, false, cond, ◌⊎◌, inl, inr, List, [], ◌∷◌, ℕ, zero, suc}
+use Rattle.std.proofs.Common.{◌+◌, ◌<◌, arith, not-suc-le-zero, le_of_suc-le-suc, get_or, length}
 use Rattle.network.specs.Network.{Network}
 use Rattle.network.specs.Model.{Model, nowhere, networks, node_network, bound, WellFormed}
 use Rattle.network.specs.Lists.{flag_of}

@@ -1,14 +1,7 @@
 -- The verdict on a well-formed model: pass exactly when no flag is up and no list passes its limit; 12 is never given;
 -- and a pass bounds silence. Assumes nothing.
-use mathlib.Core.Path.{◌≡◌, refl}
-use mathlib.Core.Bool.{Bool, true, false, ◌||◌}
-use mathlib.Core.Logic.{◌≢◌, ◌↔◌}
-use mathlib.Core.List.{List}
-use Prim.Native.Nat.{ℕ, ◌-◌, ◌<◌, ◌≤◌}
-use native.Mathlib.Omega.{arith}
-use lib.Dec.{eqb→eq}
-use lib.ListN.{length}
-use borrow.Author.Tests.{ltb-true, ltb-false}
+use Rattle.std.proofs.Common.{◌≡◌, refl, Bool, true, false, ◌||◌, ◌≢◌, ◌↔◌, List, ℕ, ◌-◌, ◌<◌, ◌≤◌, arith}
+use Rattle.std.proofs.Common.{eqb→eq, length, ltb-true, ltb-false}
 use Rattle.events.specs.Sets.{is_empty}
 use Rattle.network.specs.Network.{Network, Formed}
 use Rattle.network.specs.Walks.{SilenceBelow}

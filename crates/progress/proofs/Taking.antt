@@ -1,11 +1,7 @@
 -- What is read so far once a record is taken, kind by kind.
 -- Assumes nothing.
-use mathlib.Core.Path.{◌≡◌, sym, ap}
-use mathlib.Core.Bool.{true, false, ◌||◌}
-use Prim.Native.Nat.{ℕ, zero, suc, ◌+◌, ◌≤◌}
-use native.Mathlib.Omega.{arith}
-use lib.Dec.{eqb}
-use borrow.Author.Tests.{eq-eqb, ne_eqb}
+use Rattle.std.proofs.Common.{◌≡◌, sym, ap, true, false, ◌||◌, ℕ, zero, suc, ◌+◌, ◌≤◌, arith, eqb, eq-eqb}
+use Rattle.std.proofs.Common.{ne_eqb}
 use Rattle.events.specs.Sets.{digit}
 use Rattle.records.specs.declared.Record.{Record}
 use Rattle.progress.specs.declared.Progress.{Progress}

@@ -1,7 +1,6 @@
 -- Each function of this crate is settled by its contract: two results that meet it are equal.
 -- Assumes nothing.
-use mathlib.Core.Path.{◌≡◌}
-use Prim.Native.Nat.{ℕ, ◌-◌}
+use Rattle.std.proofs.Common.{◌≡◌, ℕ, ◌-◌}
 use Rattle.events.specs.Sets.{digit}
 use Rattle.events.proofs.Unique.{settled}
 use Rattle.records.specs.declared.Record.{Record}

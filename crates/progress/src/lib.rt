@@ -1,4 +1,6 @@
 // What has been read so far of a model file, and taking one record more.
+#![tactic(auto)]
+
 ghost use Rattle.std.specs.Prelude.{◌≡◌, ◌-◌};
 ghost use Rattle.events.specs.Sets.{digit};
 ghost use Rattle.records.specs.Kinds.{leaf_kind, is};
@@ -8,7 +10,7 @@ use events::EventSet;
 use records::Record;
 
 // What has been read so far.
-#[derive(Drop)]
+#[derive(Clone, Copy)]
 pub struct Progress {
     pub place: usize,
     pub n: u32,

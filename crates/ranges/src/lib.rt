@@ -1,4 +1,6 @@
 // Test 5: whether a number of a record lies outside its range.
+#![tactic(auto)]
+
 ghost use Rattle.std.specs.Prelude.{◌≡◌};
 ghost use Rattle.ranges.specs.Ranges.{outside, wrong_set, wrong_target, wrong_targets, wrong_step, out_of_range};
 

@@ -1,10 +1,6 @@
 -- What a choice by a Boolean, and a test that joins others by "or", is known to be.
 -- Assumes nothing.
-use mathlib.Core.Path.{◌≡◌, refl, sym, ◌∙◌}
-use mathlib.Core.Bool.{Bool, true, false, cond, ◌&&◌, ◌||◌}
-use Prim.Native.Nat.{ℕ, ◌≤◌}
-use native.Mathlib.Omega.{arith}
-use lib.Dec.{T}
+use Rattle.std.proofs.Common.{◌≡◌, refl, sym, ◌∙◌, Bool, true, false, cond, ◌&&◌, ◌||◌, ℕ, ◌≤◌, arith, T}
 use Rattle.events.specs.Sets.{digit}
 
 pub true_not_false : true ≡ false → ⊥

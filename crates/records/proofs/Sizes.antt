@@ -1,14 +1,8 @@
 -- The sizes of records, kind by kind.
 -- Assumes nothing.
-use mathlib.Core.Path.{◌≡◌, refl, ap}
-use mathlib.Core.List.{[], ◌∷◌}
-use mathlib.Core.Bool.{Bool, true, false}
-use mathlib.Core.Logic.{◌≢◌}
-use Prim.Native.Nat.{ℕ, zero, suc, ◌≤◌}
-use native.Mathlib.Omega.{arith}
-use lib.Dec.{ltb}
+use Rattle.std.proofs.Common.{◌≡◌, refl, ap, [], ◌∷◌, Bool, true, false, ◌≢◌, ℕ, zero, suc, ◌≤◌, arith, ltb}
+use Rattle.std.proofs.Common.{ltb-true, ltb-false}
 use lib.ListN.{get_or-eq_default}
-use borrow.Author.Tests.{ltb-true, ltb-false}
 use Rattle.records.specs.Kinds.{body_length, size_of}
 
 -- a fact of each kind is a fact of every kind from 1 to 8

@@ -1,4 +1,6 @@
 // A record of a model file: its kind and its numbers.
+#![tactic(auto)]
+
 ghost use Rattle.std.specs.Prelude.{◌≡◌};
 ghost use Rattle.records.specs.Kinds.{size_of, is_node, has_operand};
 ghost use Rattle.records.specs.Records.{header_record, machine_record, step_record, leaf_record, join_record};
@@ -24,7 +26,7 @@ pub const END: u32 = 8;
 pub const SILENT: u32 = 255;
 
 // A kind and its numbers; a number that the kind doesn't use is 0.
-#[derive(Drop)]
+#[derive(Clone, Copy)]
 pub struct Record {
     pub kind: u32,
     // header: n; machine: state count; leaf: machine number; end: byte count

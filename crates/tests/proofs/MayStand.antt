@@ -1,9 +1,6 @@
 -- What is known, kind by kind, of a record that may stand behind g: the tests' facts on numbers.
 -- Assumes nothing.
-use mathlib.Core.Path.{◌≡◌}
-use mathlib.Core.Bool.{false}
-use mathlib.Core.Logic.{◌≢◌, ◌⊎◌}
-use Prim.Native.Nat.{ℕ, ◌≤◌, ◌<◌}
+use Rattle.std.proofs.Common.{◌≡◌, false, ◌≢◌, ◌⊎◌, ℕ, ◌≤◌, ◌<◌}
 use Rattle.events.specs.Sets.{room, has, count}
 use Rattle.records.specs.declared.Record.{Record}
 use Rattle.progress.specs.declared.Progress.{Progress}

@@ -1,12 +1,8 @@
 -- A record of which the facts of its kind hold meets no test, with just its own bytes left.
 -- Assumes nothing.
-use mathlib.Core.Path.{◌≡◌}
-use mathlib.Core.Logic.{◌⊎◌, inl, inr}
-use mathlib.Core.Bool.{false, not, ◌&&◌}
-use Prim.Native.Nat.{ℕ, ◌<◌}
-use native.Mathlib.Omega.{arith}
-use lib.Dec.{ltb, leb, eqb}
-use borrow.Author.Tests.{eq-eqb, ne_eqb, le-ltb, lt-leb}
+use Rattle.std.proofs.Common.{◌≡◌, ◌⊎◌, inl, inr, false, not, ◌&&◌, ℕ, ◌<◌, arith, ltb, leb, eqb, eq-eqb, ne_eqb}
+use Rattle.std.proofs.Common.{le-ltb}
+use borrow.Author.Tests.{lt-leb}
 use Rattle.events.specs.Sets.{room, count}
 use Rattle.events.proofs.Booleans.{and_false}
 use Rattle.records.specs.declared.Record.{Record}

@@ -1,4 +1,6 @@
 // The tests on a record, in document 01's order, and the first that hits.
+#![tactic(auto)]
+
 ghost use Rattle.std.specs.Prelude.{◌≡◌};
 ghost use Rattle.tests.specs.Tests.{bad_kind, cut_short, misplaced, too_many, not_free, bad_operand, not_above};
 ghost use Rattle.tests.specs.Tests.{ninth_event, unused_node, bad_end};
@@ -8,7 +10,7 @@ use events::EventSet;
 use progress::Progress;
 use records::Record;
 
-#[derive(Drop)]
+#[derive(Clone, Copy)]
 pub struct Refusal {
     pub number: u32,
     pub place: usize,
