@@ -1,13 +1,10 @@
 -- A loop that copies one list into another, entry by entry: `paste d at s j` is d with the first j entries of s from
 -- place `at` on. Assumes nothing.
-use mathlib.Core.Path.{◌≡◌, sym, ap, ◌∙◌}
-use mathlib.Core.List.{List, [], ◌∷◌, append-nil, map}
-use Prim.Native.Nat.{ℕ, ◌+◌, ◌<◌, ◌≤◌}
+use Rattle.std.proofs.Common.{◌≡◌, sym, ap, ◌∙◌, List, [], ◌∷◌, append-nil, map, ℕ, ◌+◌, ◌<◌, ◌≤◌, arith}
+use Rattle.std.proofs.Common.{add-one, length, take, drop, get_or, set, drop_of_length-le, get_or-drop, take_all}
 use Rattle.handing.specs.Handing.{low_byte}
-use native.Mathlib.Omega.{arith}
-use native.Mathlib.Numerals.{add-one}
-use lib.ListN.{length, take, drop, get_or, set, drop_of_length-le, get_or-map}
-use lib.Seq.{paste, paste-suc, get_or-drop, take_all}
+use lib.ListN.{get_or-map}
+use lib.Seq.{paste, paste-suc}
 
 pub copy_next : (d : List ℕ) (at : ℕ) (s : List ℕ) (j : ℕ) (now : List ℕ) (v : ℕ) → now ≡ paste d at s j
     → at + j < length d

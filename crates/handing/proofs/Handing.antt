@@ -1,15 +1,11 @@
 -- The record that is handed in, by its kind; and the bytes of a record of each kind, as the code lays them out.
 -- Assumes nothing.
-use mathlib.Core.Path.{◌≡◌, refl, sym, ap}
-use mathlib.Core.Bool.{Bool, true, false, cond}
-use mathlib.Core.List.{List, [], ◌∷◌, map, append-nil}
-use Prim.Native.Nat.{ℕ, zero, suc, ◌/◌, ◌≤◌}
-use native.Mathlib.Omega.{arith}
+use Rattle.std.proofs.Common.{◌≡◌, refl, sym, ap, Bool, true, false, cond, List, [], ◌∷◌, map, append-nil, ℕ}
+use Rattle.std.proofs.Common.{zero, suc, ◌/◌, ◌≤◌, arith, eqb, length, take, drop, replicate, length-take}
+use Rattle.std.proofs.Common.{take_all, ne_eqb, eqb-true}
 use native.Mathlib.Decide.{ℕ_discrete, dec_le}
-use lib.Dec.{eqb}
-use lib.ListN.{length, take, drop, replicate, length-map, length-take}
-use lib.Seq.{paste, take_all}
-use borrow.Author.Tests.{ne_eqb, eqb-true}
+use lib.ListN.{length-map}
+use lib.Seq.{paste}
 use Rattle.records.specs.declared.Record.{Record}
 use Rattle.records.specs.Kinds.{size_of, body_length, header_kind, machine_kind, step_kind, leaf_kind, join_kind, hide_kind}
 use Rattle.records.specs.Kinds.{rename_kind, end_kind}

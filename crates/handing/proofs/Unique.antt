@@ -1,7 +1,5 @@
 -- Two results that meet a contract of this crate are equal. Assumes nothing.
-use mathlib.Core.Path.{◌≡◌}
-use mathlib.Core.List.{List}
-use Prim.Native.Nat.{ℕ}
+use Rattle.std.proofs.Common.{◌≡◌, List, ℕ}
 use Rattle.events.proofs.Unique.{settled}
 use Rattle.records.specs.declared.Record.{Record}
 use Rattle.handing.specs.Handing.{handed_in, numbers_of, record_array}

@@ -1,4 +1,6 @@
 // A record as it is handed in, a kind and seventeen numbers, and as bytes to be stored.
+#![tactic(auto)]
+
 ghost use Rattle.std.specs.Prelude.{◌≡◌, ◌∷◌, map, ◌<◌, ◌%◌, ◌^◌, length, take, drop, replicate};
 ghost use Rattle.std.proofs.Math.Seq.{paste};
 ghost use Rattle.handing.specs.Handing.{low_byte, handed_in, numbers_of, record_array};

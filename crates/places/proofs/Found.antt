@@ -1,16 +1,9 @@
 -- What is found in a file is what its model says: node k, and machine m with its state count and its steps.
 -- Assumes nothing.
-use mathlib.Core.Path.{◌≡◌, refl, sym, ap, ◌∙◌}
-use mathlib.Core.Bool.{Bool, true, false, cond, ◌&&◌}
-use mathlib.Core.List.{List, [], ◌∷◌}
-use mathlib.Core.Logic.{◌⊎◌, inl, inr}
-use Prim.Native.Nat.{ℕ, zero, suc, ◌+◌, ◌≤◌, ◌<◌}
-use native.Mathlib.Omega.{arith}
+use Rattle.std.proofs.Common.{◌≡◌, refl, sym, ap, ◌∙◌, Bool, true, false, cond, ◌&&◌, List, [], ◌∷◌, ◌⊎◌, inl}
+use Rattle.std.proofs.Common.{inr, ℕ, zero, suc, ◌+◌, ◌≤◌, ◌<◌, arith, eqb, length, drop, get_or, length-drop}
+use Rattle.std.proofs.Common.{drop-drop, eqb-true}
 use native.Mathlib.Decide.{dec_lt}
-use lib.Dec.{eqb}
-use lib.ListN.{length, drop, get_or, length-drop}
-use lib.Seq.{drop-drop}
-use borrow.Author.Tests.{eqb-true}
 use Rattle.network.specs.Machine.{Machine}
 use Rattle.network.specs.Model.{Node, leaf_node, idle}
 use Rattle.records.specs.declared.Record.{Record}

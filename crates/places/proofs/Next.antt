@@ -1,11 +1,8 @@
 -- The nodes of a readable file stand one behind another, behind all records that are no nodes.
 -- Assumes nothing.
-use mathlib.Core.Path.{◌≡◌, refl, ap, ◌∙◌}
-use mathlib.Core.Bool.{true, false}
-use mathlib.Core.List.{List, [], ◌∷◌, ◌++◌, map, flat_map, append_assoc}
-use Prim.Native.Nat.{ℕ, zero, suc, ◌+◌, ◌<◌}
-use native.Mathlib.Omega.{arith}
-use lib.ListN.{length, get_or}
+use Rattle.std.proofs.Common.{◌≡◌, refl, ap, ◌∙◌, true, false, List, [], ◌∷◌, ◌++◌, append_assoc, ℕ, zero, suc}
+use Rattle.std.proofs.Common.{◌+◌, ◌<◌, arith, length, get_or}
+use mathlib.Core.List.{map, flat_map}
 use Rattle.network.specs.Machine.{Machine, Step, step}
 use Rattle.network.specs.Model.{Node, leaf_node, join_node, hide_node, rename_node}
 use Rattle.records.specs.declared.Record.{Record}

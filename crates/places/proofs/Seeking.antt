@@ -1,14 +1,8 @@
 -- The loop that seeks a record: what holds whenever it comes round.
 -- Assumes nothing.
-use mathlib.Core.Path.{◌≡◌, refl, sym, ap, ◌∙◌}
-use mathlib.Core.Bool.{Bool, true, false, cond, ◌&&◌}
-use mathlib.Core.List.{List, [], ◌∷◌}
-use Prim.Native.Nat.{ℕ, zero, suc, ◌+◌, ◌-◌, ◌≤◌, ◌<◌}
-use native.Mathlib.Omega.{arith}
-use lib.Dec.{eqb}
-use lib.ListN.{length, drop, length-drop, drop_of_length-le}
-use lib.Seq.{drop-drop, drop-cons}
-use borrow.Author.Tests.{ne_eqb}
+use Rattle.std.proofs.Common.{◌≡◌, refl, sym, ap, ◌∙◌, Bool, true, false, cond, ◌&&◌, List, [], ◌∷◌, ℕ, zero}
+use Rattle.std.proofs.Common.{suc, ◌+◌, ◌-◌, ◌≤◌, ◌<◌, arith, eqb, length, drop, length-drop, drop_of_length-le}
+use Rattle.std.proofs.Common.{drop-drop, drop-cons, ne_eqb}
 use Rattle.records.specs.declared.Record.{Record}
 use Rattle.records.specs.Kinds.{size_of}
 use Rattle.records.specs.Records.{other_record}

@@ -1,9 +1,6 @@
 -- Each function of this crate is settled by its contract, for every list of bytes: two results that meet it are equal.
 -- Assumes nothing.
-use mathlib.Core.Path.{◌≡◌}
-use mathlib.Core.Bool.{Bool, cond}
-use mathlib.Core.List.{List}
-use Prim.Native.Nat.{ℕ, ◌-◌}
+use Rattle.std.proofs.Common.{◌≡◌, Bool, cond, List, ℕ, ◌-◌}
 use Rattle.events.proofs.Unique.{settled}
 use Rattle.network.specs.Model.{bound}
 use Rattle.records.specs.declared.Record.{Record}

@@ -1,12 +1,8 @@
 -- The bytes of a readable file are the bytes of its records, one behind another.
 -- Assumes nothing.
-use mathlib.Core.Path.{◌≡◌, refl, ap, ◌∙◌}
-use mathlib.Core.List.{List, [], ◌++◌, flat_map}
-use mathlib.Core.Logic.{inl, inr}
-use Prim.Native.Nat.{ℕ, zero, suc, ◌+◌, ◌≤◌}
-use native.Mathlib.Omega.{arith}
-use lib.ListN.{length, take, drop, take-append-drop, drop_of_length-le}
-use lib.Seq.{get_or-drop}
+use Rattle.std.proofs.Common.{◌≡◌, refl, ap, ◌∙◌, List, [], ◌++◌, inl, inr, ℕ, zero, suc, ◌+◌, ◌≤◌, arith}
+use Rattle.std.proofs.Common.{length, take, drop, take-append-drop, drop_of_length-le, get_or-drop}
+use mathlib.Core.List.{flat_map}
 use Rattle.progress.specs.declared.Progress.{Progress}
 use Rattle.records.specs.Kinds.{body_length, size_of, end_kind}
 use Rattle.decoding.specs.Bytes.{AreBytes, first_record, bytes_of}

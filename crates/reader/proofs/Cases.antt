@@ -1,6 +1,6 @@
 -- What the definitions say of document 01's example and its cases 12 and 13 is what document 01 says.
 -- Assumes nothing.
-use mathlib.Core.Path.{◌≡◌, refl}
+use Rattle.std.proofs.Common.{◌≡◌, refl}
 use mathlib.Core.List.{map}
 use Rattle.events.specs.Sets.{has, set_of, count}
 use Rattle.records.specs.Kinds.{body_length, size_of}

@@ -1,12 +1,10 @@
 -- The encoding of a model that a file can say consists of bytes, and each of its records decodes.
 -- Assumes nothing.
-use mathlib.Core.Path.{◌≡◌, refl}
-use mathlib.Core.List.{List, [], ◌∷◌, ◌++◌, map, flat_map, Memᴰ}
-use Prim.Native.Nat.{ℕ, zero, suc, ◌+◌, ◌/◌, ◌%◌, ◌≤◌, ◌<◌}
-use native.Mathlib.Omega.{arith}
+use Rattle.std.proofs.Common.{◌≡◌, refl, List, [], ◌∷◌, ◌++◌, ℕ, zero, suc, ◌+◌, ◌/◌, ◌%◌, ◌≤◌, ◌<◌, arith}
+use Rattle.std.proofs.Common.{length, get_or, pow_mono}
+use mathlib.Core.List.{map, flat_map, Memᴰ}
 use native.Mathlib.Decide.{dec_lt}
-use lib.ListN.{length, get_or, get_or-eq_default}
-use lib.Pow.{pow_mono}
+use lib.ListN.{get_or-eq_default}
 use Rattle.network.specs.Machine.{Step, step, Machine, MachineFormed, StepFormed}
 use Rattle.network.specs.Network.{TargetsBelow}
 use Rattle.network.specs.Model.{Node, leaf_node, join_node, hide_node, rename_node, NodeFormed}

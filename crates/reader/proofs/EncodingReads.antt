@@ -1,14 +1,9 @@
 -- A model that a file can say has a readable encoding, of bytes, whose model it is.
 -- Assumes nothing.
-use mathlib.Core.Path.{◌≡◌, refl, sym, ap, ◌∙◌}
-use mathlib.Core.Bool.{Bool, true, false}
-use mathlib.Core.Logic.{◌≢◌}
-use mathlib.Core.List.{List, [], ◌∷◌, ◌++◌, map, flat_map, Memᴰ}
-use Prim.Native.Nat.{ℕ, suc, ◌+◌, ◌-◌, ◌≤◌, ◌<◌}
-use native.Mathlib.Omega.{arith}
+use Rattle.std.proofs.Common.{◌≡◌, refl, sym, ap, ◌∙◌, Bool, true, false, ◌≢◌, List, [], ◌∷◌, ◌++◌, map, ℕ, suc}
+use Rattle.std.proofs.Common.{◌+◌, ◌-◌, ◌≤◌, ◌<◌, arith, T, length, length-append}
+use mathlib.Core.List.{flat_map, Memᴰ}
 use native.Mathlib.Decide.{dec_lt}
-use lib.Dec.{T}
-use lib.ListN.{length, length-append}
 use Rattle.events.specs.Sets.{room, has, digit}
 use Rattle.events.proofs.Machine.{has_empty}
 use Rattle.network.specs.Machine.{Step, Machine}

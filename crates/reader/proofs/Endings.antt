@@ -1,12 +1,7 @@
 -- What a model's records lack: an operand from the last node on, and an end before the last record.
 -- Assumes nothing.
-use mathlib.Core.Path.{◌≡◌, refl}
-use mathlib.Core.Logic.{◌≢◌}
-use mathlib.Core.List.{List, [], ◌∷◌, ◌++◌, map, flat_map}
-use Prim.Native.Nat.{ℕ, suc, ◌+◌, ◌≤◌}
-use native.Mathlib.Omega.{arith}
-use lib.ListN.{length}
-use borrow.Author.Tests.{ne_eqb}
+use Rattle.std.proofs.Common.{◌≡◌, refl, ◌≢◌, List, [], ◌∷◌, ◌++◌, ℕ, suc, ◌+◌, ◌≤◌, arith, length, ne_eqb}
+use mathlib.Core.List.{map, flat_map}
 use Rattle.network.specs.Machine.{Step, step, Machine}
 use Rattle.network.specs.Model.{Node, leaf_node, join_node, hide_node, rename_node, NodeFormed, operands, times}
 use Rattle.records.specs.declared.Record.{Record}

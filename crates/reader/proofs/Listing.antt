@@ -1,13 +1,8 @@
 -- The records of a readable file are those of its model and an end: one header, machines each followed by its steps,
 -- nodes. Assumes nothing.
-use mathlib.Core.Path.{◌≡◌, refl, sym, ap, ◌∙◌}
-use mathlib.Core.Bool.{Bool, true, false, cond}
-use mathlib.Core.List.{List, [], ◌∷◌, ◌++◌, map, flat_map, append_assoc}
-use mathlib.Core.Logic.{◌≢◌}
-use Prim.Native.Nat.{ℕ, ◌+◌}
-use native.Mathlib.Omega.{arith}
-use lib.Dec.{eqb}
-use borrow.Author.Tests.{eqb-true}
+use Rattle.std.proofs.Common.{◌≡◌, refl, sym, ap, ◌∙◌, Bool, true, false, cond, List, [], ◌∷◌, ◌++◌}
+use Rattle.std.proofs.Common.{append_assoc, ◌≢◌, ℕ, ◌+◌, arith, eqb, eqb-true}
+use mathlib.Core.List.{map, flat_map}
 use Rattle.network.specs.Machine.{Machine, Step, silent, event}
 use Rattle.network.specs.Model.{Node, leaf_node, join_node, hide_node, rename_node}
 use Rattle.records.specs.declared.Record.{Record}

@@ -1,12 +1,9 @@
 -- Machines, each followed by its steps: records that meet no test are well-formed machines within the limits, and the
 -- other way round. Assumes nothing.
-use mathlib.Core.Path.{◌≡◌, refl, sym, ◌∙◌}
-use mathlib.Core.Logic.{◌≢◌}
+use Rattle.std.proofs.Common.{◌≡◌, refl, sym, ◌∙◌, ◌≢◌, List, [], ◌∷◌, map, ℕ, ◌+◌, ◌≤◌, ◌<◌, zero-le, arith}
+use Rattle.std.proofs.Common.{length}
 use mathlib.Core.List.Memᴰ
-use mathlib.Core.List.{List, [], ◌∷◌, map, flat_map, Memᴰ}
-use Prim.Native.Nat.{ℕ, ◌+◌, ◌≤◌, ◌<◌, zero-le}
-use native.Mathlib.Omega.{arith}
-use lib.ListN.{length}
+use mathlib.Core.List.{flat_map, Memᴰ}
 use Rattle.events.specs.Sets.{room, has, count}
 use Rattle.network.specs.Machine.{Step, Machine, MachineFormed}
 use Rattle.network.specs.Limits.{events_of, step_total}

@@ -1,10 +1,7 @@
 -- The records of a model, with an end behind them, say that model.
 -- Assumes nothing.
-use mathlib.Core.Path.{◌≡◌, refl, ap, ◌∙◌}
-use mathlib.Core.List.{List, [], ◌∷◌, ◌++◌, map, flat_map, append_assoc, Memᴰ}
-use Prim.Native.Nat.{ℕ, ◌≤◌}
-use native.Mathlib.Omega.{arith}
-use borrow.Author.Tests.{ne_eqb}
+use Rattle.std.proofs.Common.{◌≡◌, refl, ap, ◌∙◌, List, [], ◌∷◌, ◌++◌, append_assoc, ℕ, ◌≤◌, arith, ne_eqb}
+use mathlib.Core.List.{map, flat_map, Memᴰ}
 use Rattle.network.specs.Machine.{Label, silent, event, Step, step, Machine, LabelBelow, StepFormed}
 use Rattle.network.specs.Model.{Node, leaf_node, join_node, hide_node, rename_node, Model}
 use Rattle.records.specs.declared.Record.{Record}

@@ -1,12 +1,8 @@
 -- What is read once nodes are taken: the counts, and each operand counted among the used.
 -- Assumes nothing.
-use mathlib.Core.Path.{◌≡◌, refl, ◌∙◌}
-use mathlib.Core.Bool.{false}
-use mathlib.Core.Logic.{◌≢◌}
-use mathlib.Core.List.{List, [], ◌∷◌, ◌++◌, map, flat_map}
-use Prim.Native.Nat.{ℕ, ◌+◌, ◌≤◌, ◌<◌}
-use native.Mathlib.Omega.{arith}
-use lib.ListN.{length, length-append}
+use Rattle.std.proofs.Common.{◌≡◌, refl, ◌∙◌, false, ◌≢◌, List, [], ◌∷◌, ◌++◌, ℕ, ◌+◌, ◌≤◌, ◌<◌, arith, length}
+use Rattle.std.proofs.Common.{length-append}
+use mathlib.Core.List.{map, flat_map}
 use Rattle.events.specs.Sets.{room, has, digit}
 use Rattle.network.specs.Machine.{Machine}
 use Rattle.network.specs.Model.{Node, leaf_node, join_node, hide_node, rename_node, operands, times, own_machine}

@@ -1,11 +1,8 @@
 -- Nodes: records that meet no test are nodes in range whose operands are free, and the other way round.
 -- Assumes nothing.
-use mathlib.Core.Path.{◌≡◌, refl}
-use mathlib.Core.List.{List, [], ◌∷◌, map, Memᴰ}
+use Rattle.std.proofs.Common.{◌≡◌, refl, List, [], ◌∷◌, ℕ, zero, suc, ◌+◌, ◌≤◌, ◌<◌, arith, length, get_or}
+use mathlib.Core.List.{map, Memᴰ}
 use mathlib.Core.List.Memᴰ
-use Prim.Native.Nat.{ℕ, zero, suc, ◌+◌, ◌≤◌, ◌<◌}
-use native.Mathlib.Omega.{arith}
-use lib.ListN.{length, get_or}
 use Rattle.network.specs.Model.{Node, leaf_node, join_node, hide_node, rename_node, NodeFormed}
 use Rattle.progress.specs.declared.Progress.{Progress}
 use Rattle.records.specs.Kinds.{size_of}

@@ -1,15 +1,9 @@
 -- Nodes in range, each an operand at most once, pass the tests where there is room for them.
 -- Assumes nothing.
-use mathlib.Core.Path.{◌≡◌, refl, sym, ap, ◌∙◌}
-use mathlib.Core.Bool.{Bool, true, false}
-use mathlib.Core.Logic.{◌≢◌}
+use Rattle.std.proofs.Common.{◌≡◌, refl, sym, ap, ◌∙◌, Bool, true, false, ◌≢◌, List, [], ◌∷◌, ◌++◌, ℕ, suc, ◌+◌}
+use Rattle.std.proofs.Common.{◌≤◌, ◌<◌, arith, eqb, length, get_or, length-append, eq-eqb}
 use mathlib.Core.List.Memᴰ
-use mathlib.Core.List.{List, [], ◌∷◌, ◌++◌, map, flat_map}
-use Prim.Native.Nat.{ℕ, suc, ◌+◌, ◌≤◌, ◌<◌}
-use native.Mathlib.Omega.{arith}
-use lib.Dec.{eqb}
-use lib.ListN.{length, get_or, length-append}
-use borrow.Author.Tests.{eq-eqb}
+use mathlib.Core.List.{map, flat_map}
 use Rattle.events.specs.Sets.{room, has, digit}
 use Rattle.network.specs.Machine.{Machine}
 use Rattle.network.specs.Model.{Node, leaf_node, join_node, hide_node, rename_node, NodeFormed, operands, times}

@@ -1,15 +1,10 @@
 -- The tests on sets, targets and used operands, as facts on the model's nodes.
 -- Assumes nothing.
-use mathlib.Core.Path.{◌≡◌, refl, sym, ap, ◌∙◌}
-use mathlib.Core.Bool.{Bool, true, false, not, ◌&&◌, ◌||◌}
-use mathlib.Core.Logic.{◌≢◌}
-use mathlib.Core.List.{List, [], ◌∷◌}
-use Prim.Native.Nat.{ℕ, zero, suc, ◌+◌, ◌^◌, ◌≤◌, ◌<◌, min}
-use native.Mathlib.Omega.{arith}
+use Rattle.std.proofs.Common.{◌≡◌, refl, sym, ap, ◌∙◌, Bool, true, false, not, ◌&&◌, ◌||◌, ◌≢◌, List, [], ◌∷◌, ℕ}
+use Rattle.std.proofs.Common.{zero, suc, ◌+◌, ◌^◌, ◌≤◌, ◌<◌, min, arith, T, ltb, leb, eqb, length, get_or}
+use Rattle.std.proofs.Common.{leb-false, eqb-true, eq-eqb, ne_eqb, lt-ltb, le-ltb, le-leb}
 use native.Mathlib.Decide.{dec_lt}
-use lib.Dec.{T, ltb, leb, eqb}
-use lib.ListN.{length, get_or}
-use borrow.Author.Tests.{leb-false, eqb-true, eqb-false, eq-eqb, ne_eqb, lt-ltb, le-ltb, le-leb, lt-leb, not-false}
+use borrow.Author.Tests.{eqb-false, lt-leb, not-false}
 use Rattle.events.specs.Sets.{room, has, digit, full, included}
 use Rattle.events.proofs.Members.{member_below, below_of_members, set_of_below}
 use Rattle.events.proofs.Operations.{full_in}

@@ -1,13 +1,7 @@
 -- What document 01 says of a file, and the reading and the scan behind it.
 -- Assumes nothing.
-use mathlib.Core.Path.{◌≡◌, refl, sym, ap}
-use mathlib.Core.Bool.{Bool, true, false, cond}
-use mathlib.Core.List.{List}
-use Prim.Native.Nat.{ℕ, ◌≤◌, ◌<◌}
-use native.Mathlib.Omega.{arith}
-use lib.Dec.{ltb}
-use lib.ListN.{length}
-use borrow.Author.Tests.{lt-ltb, le-ltb, ltb-false}
+use Rattle.std.proofs.Common.{◌≡◌, refl, sym, ap, Bool, true, false, cond, List, ℕ, ◌≤◌, ◌<◌, arith, ltb, length}
+use Rattle.std.proofs.Common.{lt-ltb, le-ltb, ltb-false}
 use Rattle.progress.specs.declared.Progress.{Progress}
 use Rattle.tests.specs.FirstHit.{refusal}
 use Rattle.reader.specs.declared.Scan.{Scan}

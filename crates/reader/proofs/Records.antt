@@ -1,14 +1,9 @@
 -- The records of a file, as the scan goes over them: they run from the start to the end, each meeting no test.
 -- Assumes nothing.
-use mathlib.Core.Path.{◌≡◌, refl, sym, ap, ◌∙◌}
-use mathlib.Core.Bool.{false, not}
-use mathlib.Core.List.{List, [], ◌∷◌}
-use mathlib.Core.Logic.{◌≢◌, ◌⊎◌, inl, inr}
-use Prim.Native.Nat.{ℕ, zero, suc, ◌≤◌, ◌<◌}
-use native.Mathlib.Omega.{arith}
-use lib.Dec.{ltb, eqb}
-use lib.ListN.{length, length-drop}
-use borrow.Author.Tests.{ltb-false, eqb-true, eq-eqb, ne_eqb, le-ltb, not-false}
+use Rattle.std.proofs.Common.{◌≡◌, refl, sym, ap, ◌∙◌, false, not, List, [], ◌∷◌, ◌≢◌, ◌⊎◌, inl, inr, ℕ, zero}
+use Rattle.std.proofs.Common.{suc, ◌≤◌, ◌<◌, arith, ltb, eqb, length, length-drop, ltb-false, eqb-true, eq-eqb}
+use Rattle.std.proofs.Common.{ne_eqb, le-ltb}
+use borrow.Author.Tests.{not-false}
 use Rattle.records.specs.declared.Record.{Record}
 use Rattle.progress.specs.declared.Progress.{Progress}
 use Rattle.records.specs.Kinds.{body_length, size_of, end_kind}

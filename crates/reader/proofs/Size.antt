@@ -1,10 +1,7 @@
 -- How long a model's encoding is: header 2, twelve machines 24, 512 steps 2,048, one leaf and 31 renames 560, end 3.
 -- Assumes nothing.
-use mathlib.Core.Path.{◌≡◌, refl, sym, ap}
-use mathlib.Core.List.{List, [], ◌∷◌, map, flat_map, Memᴰ}
-use Prim.Native.Nat.{ℕ, ◌+◌, ◌*◌, ◌≤◌}
-use native.Mathlib.Omega.{arith}
-use lib.ListN.{length, length-append}
+use Rattle.std.proofs.Common.{◌≡◌, refl, sym, ap, List, [], ◌∷◌, ℕ, ◌+◌, ◌*◌, ◌≤◌, arith, length, length-append}
+use mathlib.Core.List.{map, flat_map, Memᴰ}
 use Rattle.network.specs.Machine.{Step, step, Machine}
 use Rattle.network.specs.Model.{Node, leaf_node, join_node, hide_node, rename_node, Model, own_machine, leaf_machines}
 use Rattle.network.specs.Limits.{step_total}

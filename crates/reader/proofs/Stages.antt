@@ -1,9 +1,7 @@
 -- The stages of reading a model's records: what is read behind the header, behind the machines and behind the nodes.
 -- Assumes nothing.
-use mathlib.Core.Path.{◌≡◌, refl, ◌∙◌}
-use mathlib.Core.List.{map, flat_map}
-use native.Mathlib.Omega.{arith}
-use lib.ListN.{length}
+use Rattle.std.proofs.Common.{◌≡◌, refl, ◌∙◌, map, arith, length}
+use mathlib.Core.List.{flat_map}
 use Rattle.network.specs.Model.{Model}
 use Rattle.progress.specs.declared.Progress.{Progress}
 use Rattle.records.specs.Records.{header_record}

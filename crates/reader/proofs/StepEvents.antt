@@ -1,14 +1,10 @@
 -- The events that steps add to a set one by one are the set of the events that the machine uses; and how many they are.
 -- Assumes nothing.
-use mathlib.Core.Path.{◌≡◌, refl, sym, ap, ◌∙◌}
-use mathlib.Core.Bool.{Bool, true, false, ◌||◌}
-use mathlib.Core.List.{List, [], ◌∷◌, Memᴰ}
-use Prim.Native.Nat.{ℕ, zero, suc, ◌^◌, ◌≤◌, ◌<◌}
-use native.Mathlib.Omega.{arith}
+use Rattle.std.proofs.Common.{◌≡◌, refl, sym, ap, ◌∙◌, Bool, true, false, ◌||◌, List, [], ◌∷◌, ℕ, zero, suc, ◌^◌}
+use Rattle.std.proofs.Common.{◌≤◌, ◌<◌, arith, T, eqb, pow_mono, eqb-true, eq-eqb, ne_eqb}
+use mathlib.Core.List.{Memᴰ}
 use native.Mathlib.Decide.{dec_lt}
-use lib.Dec.{T, eqb}
-use lib.Pow.{pow_mono}
-use borrow.Author.Tests.{eqb-true, eqb-false, eq-eqb, ne_eqb}
+use borrow.Author.Tests.{eqb-false}
 use Rattle.events.specs.Sets.{room, has, digit, set_of, single, count}
 use Rattle.events.proofs.Booleans.{or_left}
 use Rattle.events.proofs.Members.{set_of_has, set_of_below, has_ext}

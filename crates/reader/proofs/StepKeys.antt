@@ -1,9 +1,6 @@
 -- Steps as numbers: below as a number is below by from, then label, then to.
 -- Assumes nothing.
-use mathlib.Core.Path.{◌≡◌}
-use mathlib.Core.Logic.{◌⊎◌, inl, inr}
-use Prim.Native.Nat.{ℕ, ◌+◌, ◌*◌, ◌≤◌, ◌<◌}
-use native.Mathlib.Omega.{arith}
+use Rattle.std.proofs.Common.{◌≡◌, ◌⊎◌, inl, inr, ℕ, ◌+◌, ◌*◌, ◌≤◌, ◌<◌, arith}
 use native.Mathlib.Decide.{dec_lt}
 use Rattle.network.specs.Machine.{Label, silent, event, Step, step, LabelBelow, StepFormed}
 use Rattle.records.specs.Records.{key_of}

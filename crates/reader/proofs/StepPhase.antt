@@ -1,12 +1,9 @@
 -- The steps of one machine: records that meet no test are steps in range, ascending, few enough, and the other way
 -- round. Assumes nothing.
-use mathlib.Core.Path.{◌≡◌, refl, sym, ap, ◌∙◌}
-use mathlib.Core.Logic.{◌≢◌, ◌⊎◌, inl, inr}
+use Rattle.std.proofs.Common.{◌≡◌, refl, sym, ap, ◌∙◌, ◌≢◌, ◌⊎◌, inl, inr, List, [], ◌∷◌, ℕ, ◌+◌, ◌≤◌, ◌<◌}
+use Rattle.std.proofs.Common.{arith, length}
 use mathlib.Core.List.Memᴰ
-use mathlib.Core.List.{List, [], ◌∷◌, map, Memᴰ}
-use Prim.Native.Nat.{ℕ, ◌+◌, ◌≤◌, ◌<◌}
-use native.Mathlib.Omega.{arith}
-use lib.ListN.{length}
+use mathlib.Core.List.{map, Memᴰ}
 use Rattle.events.specs.Sets.{room, count}
 use Rattle.network.specs.Machine.{Label, silent, event, Step, step, LabelBelow, StepFormed}
 use Rattle.progress.specs.declared.Progress.{Progress}

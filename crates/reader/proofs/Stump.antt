@@ -1,13 +1,8 @@
 -- Demand 1, second half: bytes with a whole readable file behind them are refused. An end record's count is the
 -- number of bytes before it and nothing follows it: so the last two bytes settle how long a readable file is. Assumes
 -- nothing.
-use mathlib.Core.Path.{◌≡◌, sym, ap, ◌∙◌}
-use mathlib.Core.List.{List, [], ◌∷◌, ◌++◌}
-use mathlib.Core.Logic.{inl, inr}
-use Prim.Native.Nat.{ℕ, zero, suc, ◌+◌, ◌-◌, ◌≤◌, ◌<◌}
-use native.Mathlib.Omega.{arith}
-use lib.ListN.{length, drop, length-drop, length-append}
-use lib.Seq.{get_or-append-add, get_or-drop}
+use Rattle.std.proofs.Common.{◌≡◌, sym, ap, ◌∙◌, List, [], ◌∷◌, ◌++◌, inl, inr, ℕ, zero, suc, ◌+◌, ◌-◌, ◌≤◌, ◌<◌}
+use Rattle.std.proofs.Common.{arith, length, drop, length-drop, length-append, get_or-append-add, get_or-drop}
 use Rattle.progress.specs.declared.Progress.{Progress}
 use Rattle.records.specs.Kinds.{body_length, size_of, end_kind}
 use Rattle.decoding.specs.Bytes.{byte, two, record_of, first_record}

@@ -1,14 +1,8 @@
 -- One turn of the scan: what it answers, and what is known of it where the scan finished.
 -- Assumes nothing.
-use mathlib.Core.Path.{◌≡◌, refl}
-use mathlib.Core.Bool.{Bool, true, false, cond}
-use mathlib.Core.List.{List}
-use mathlib.Core.Logic.{◌≢◌, ◌⊎◌, inl, inr}
-use Prim.Native.Nat.{ℕ, zero, suc, ◌≤◌, ◌<◌}
-use native.Mathlib.Omega.{arith}
-use lib.Dec.{eqb}
-use lib.ListN.{length, drop}
-use borrow.Author.Tests.{eqb-true, eqb-false, eq-eqb, ne_eqb, ltb-false}
+use Rattle.std.proofs.Common.{◌≡◌, refl, Bool, true, false, cond, List, ◌≢◌, ◌⊎◌, inl, inr, ℕ, zero, suc, ◌≤◌}
+use Rattle.std.proofs.Common.{◌<◌, arith, eqb, length, drop, eqb-true, eq-eqb, ne_eqb, ltb-false}
+use borrow.Author.Tests.{eqb-false}
 use Rattle.progress.specs.declared.Progress.{Progress}
 use Rattle.tests.specs.declared.Refusal.{Refusal}
 use Rattle.records.specs.Kinds.{end_kind, size_of, is}

@@ -1,7 +1,7 @@
 -- Document 01's example, and its cases 12 and 13, with what it says of each: one table, a row a file.
 -- Assumes nothing.
 use Rattle.std.specs.Prelude.{List, [], ◌∷◌, ◌++◌, ℕ, take}
-use Rattle.reader.specs.Scan.{Said, readable, refused, says}
+use Rattle.reader.specs.Scan.{Said, readable, refused}
 
 -- the example of "The printed result", 28 bytes
 unfoldable pub example : List ℕ

@@ -1,12 +1,8 @@
 -- A record behind a used part that stops cleanly: what is then scanned, and what the call answers and leaves.
 -- Assumes nothing.
-use mathlib.Core.Path.{◌≡◌, refl, sym, ap, ◌∙◌}
-use mathlib.Core.Logic.{◌≢◌}
-use mathlib.Core.List.{List, [], ◌++◌, append-nil, append_assoc}
-use Prim.Native.Nat.{ℕ, suc, ◌+◌, ◌≤◌, ◌<◌}
-use native.Mathlib.Omega.{arith}
-use lib.ListN.{length, drop, length-append, length-drop}
-use lib.Seq.{take_at, drop-append-add}
+use Rattle.std.proofs.Common.{◌≡◌, refl, sym, ap, ◌∙◌, ◌≢◌, List, [], ◌++◌, append-nil, append_assoc, ℕ, suc}
+use Rattle.std.proofs.Common.{◌+◌, ◌≤◌, ◌<◌, arith, length, drop, length-append, length-drop, take_at}
+use lib.Seq.{drop-append-add}
 use Rattle.records.specs.declared.Record.{Record}
 use Rattle.progress.specs.declared.Progress.{Progress}
 use Rattle.records.specs.Kinds.{end_kind, size_of, body_length}

@@ -1,8 +1,6 @@
 -- The idle writer, by computing one call: behind a header, a machine of one state is stored, and not only reported.
 -- Assumes nothing.
-use mathlib.Core.Path.{◌≡◌, refl}
-use mathlib.Core.List.{List, [], ◌∷◌}
-use Prim.Native.Nat.{ℕ}
+use Rattle.std.proofs.Common.{◌≡◌, refl, List, [], ◌∷◌, ℕ}
 use Rattle.events.specs.Sets.{has, set_of, count}
 use Rattle.records.specs.Kinds.{size_of, body_length}
 use Rattle.records.specs.Records.{no_targets, machine_record}

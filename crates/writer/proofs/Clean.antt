@@ -1,15 +1,10 @@
 -- A scan that stops cleanly at a record's start: what every taken record keeps holds there, its place is the number of
 -- bytes, and the scan of more bytes goes on from there. Assumes nothing.
-use mathlib.Core.Path.{◌≡◌, refl, sym, ap, ◌∙◌}
-use mathlib.Core.Bool.{Bool, true, false, cond}
-use mathlib.Core.Logic.{◌≢◌}
-use mathlib.Core.List.{List, [], ◌∷◌, ◌++◌}
-use Prim.Native.Nat.{ℕ, zero, suc, ◌+◌, ◌≤◌, ◌<◌}
-use native.Mathlib.Omega.{arith}
-use lib.Dec.{eqb}
-use lib.ListN.{length, length-drop, length-append}
+use Rattle.std.proofs.Common.{◌≡◌, refl, sym, ap, ◌∙◌, Bool, true, false, cond, ◌≢◌, List, [], ◌∷◌, ◌++◌, ℕ}
+use Rattle.std.proofs.Common.{zero, suc, ◌+◌, ◌≤◌, ◌<◌, arith, eqb, length, length-drop, length-append, eqb-true}
+use Rattle.std.proofs.Common.{ne_eqb, le-ltb, ltb-false}
 use lib.Seq.{drop-append-le}
-use borrow.Author.Tests.{eqb-true, eqb-false, ne_eqb, le-ltb, ltb-false}
+use borrow.Author.Tests.{eqb-false}
 use Rattle.records.specs.declared.Record.{Record}
 use Rattle.progress.specs.declared.Progress.{Progress}
 use Rattle.records.specs.Kinds.{end_kind, size_of, is}

@@ -1,15 +1,9 @@
 -- The numbers of a record that no test hits behind a clean stop fit their bytes: so what is stored is the record's
 -- encoding. Assumes nothing.
-use mathlib.Core.Path.{◌≡◌, refl, ap}
-use mathlib.Core.Bool.{Bool, true, false, not, ◌&&◌, ◌||◌}
-use mathlib.Core.Logic.{◌≢◌, ⊎_elim}
-use mathlib.Core.List.{List, [], ◌∷◌, map}
-use Prim.Native.Nat.{ℕ, suc, ◌+◌, ◌*◌, ◌/◌, ◌%◌, ◌^◌, ◌≤◌, ◌<◌, min}
-use native.Mathlib.Omega.{arith}
-use native.Mathlib.Nat.{mod-eq_of_lt}
-use lib.Dec.{leb, ltb, eqb}
-use lib.ListN.{length}
-use borrow.Author.Tests.{leb-false, ltb-false, not-false, eqb-true}
+use Rattle.std.proofs.Common.{◌≡◌, refl, ap, Bool, true, false, not, ◌&&◌, ◌||◌, ◌≢◌, ⊎_elim, List, [], ◌∷◌, map}
+use Rattle.std.proofs.Common.{ℕ, suc, ◌+◌, ◌*◌, ◌/◌, ◌%◌, ◌^◌, ◌≤◌, ◌<◌, min, arith, mod-eq_of_lt, leb, ltb, eqb}
+use Rattle.std.proofs.Common.{length, leb-false, ltb-false, eqb-true}
+use borrow.Author.Tests.{not-false}
 use Rattle.events.specs.Sets.{room, full, included}
 use Rattle.events.proofs.Members.{member_below, below_of_members, set_of_below}
 use Rattle.events.proofs.Tests.{included_iff}

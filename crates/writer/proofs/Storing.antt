@@ -1,11 +1,8 @@
 -- Storing a record's bytes behind the used part, after a success: they fit, and the buffer is what the definition says.
 -- Assumes nothing.
-use mathlib.Core.Path.{◌≡◌, sym}
-use mathlib.Core.List.{List, ◌++◌, map, append_assoc}
-use Prim.Native.Nat.{ℕ, ◌+◌, ◌-◌, ◌≤◌}
-use native.Mathlib.Omega.{arith}
-use lib.ListN.{length, take, drop}
-use lib.Seq.{paste, length-take-le}
+use Rattle.std.proofs.Common.{◌≡◌, sym, List, ◌++◌, map, append_assoc, ℕ, ◌+◌, ◌-◌, ◌≤◌, arith, length, take}
+use Rattle.std.proofs.Common.{drop, length-take-le}
+use lib.Seq.{paste}
 use Rattle.records.specs.declared.Record.{Record}
 use Rattle.records.specs.Kinds.{size_of}
 use Rattle.decoding.specs.Bytes.{bytes_of}

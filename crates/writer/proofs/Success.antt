@@ -1,16 +1,9 @@
 -- After a success: the used part is the old one with the record's encoding behind it, and the scan of it finishes or
 -- stops cleanly. Assumes nothing.
-use mathlib.Core.Path.{◌≡◌, refl, sym, ap, ◌∙◌}
-use mathlib.Core.Bool.{Bool, true, false, cond}
-use mathlib.Core.Logic.{◌⊎◌, inl, inr}
-use mathlib.Core.List.{List, ◌++◌, append_assoc}
-use Prim.Native.Nat.{ℕ, ◌≤◌}
-use native.Mathlib.Omega.{arith}
+use Rattle.std.proofs.Common.{◌≡◌, refl, sym, ap, ◌∙◌, Bool, true, false, cond, ◌⊎◌, inl, inr, List, ◌++◌}
+use Rattle.std.proofs.Common.{append_assoc, ℕ, ◌≤◌, arith, ltb, length, take, drop, length-append, length-take}
+use Rattle.std.proofs.Common.{length-drop, take_at, length-take-le, ltb-false}
 use native.Mathlib.Decide.{ℕ_discrete}
-use lib.Dec.{ltb}
-use lib.ListN.{length, take, drop, length-append, length-take, length-drop}
-use lib.Seq.{take_at, length-take-le}
-use borrow.Author.Tests.{ltb-false}
 use Rattle.records.specs.declared.Record.{Record}
 use Rattle.progress.specs.declared.Progress.{Progress}
 use Rattle.records.specs.Kinds.{end_kind, size_of}

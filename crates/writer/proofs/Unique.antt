@@ -1,8 +1,6 @@
 -- Two outcomes that meet a contract of this crate are equal: the answers, and every byte of the buffer.
 -- Assumes nothing.
-use mathlib.Core.Path.{◌≡◌}
-use mathlib.Core.List.{List}
-use Prim.Native.Nat.{ℕ}
+use Rattle.std.proofs.Common.{◌≡◌, List, ℕ}
 use Rattle.events.proofs.Unique.{settled}
 use Rattle.writer.specs.declared.Written.{Written}
 use Rattle.writer.specs.Append.{answer_of, buffer_of}

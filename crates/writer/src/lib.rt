@@ -1,4 +1,6 @@
 // The writer: one record behind a used length in a lent buffer, appended or refused.
+#![tactic(auto)]
+
 ghost use Rattle.std.specs.Prelude.{◌≡◌, ◌+◌, ◌≤◌, length, take};
 ghost use Rattle.std.proofs.Math.Seq.{paste};
 ghost use Rattle.reader.specs.Scan.{scan_of};
@@ -10,7 +12,7 @@ use reader::Scan;
 use records::Record;
 use tests::Refusal;
 
-#[derive(Drop)]
+#[derive(Clone, Copy)]
 pub enum Written {
     Appended(usize),
     Rejected(Refusal),
