@@ -1,9 +1,6 @@
 -- What the code makes of entries with the set type, which has room for 32 events, is what the rules' candidates are for
 -- 16. Assumes nothing.
-use mathlib.Core.Path.{◌≡◌, refl, sym, ap, ap₂, ◌∙◌}
-use mathlib.Core.Bool.{Bool, not, ◌&&◌, ◌||◌}
-use Prim.Native.Nat.{ℕ, ◌^◌, ◌<◌}
-use native.Mathlib.Omega.{arith}
+use Rattle.std.proofs.Common.{◌≡◌, refl, sym, ap, ap₂, ◌∙◌, Bool, not, ◌&&◌, ◌||◌, ℕ, ◌^◌, ◌<◌, arith}
 use Rattle.events.specs.Sets.{room, has, union, intersection, difference, disjoint}
 use Rattle.events.proofs.Members.{set_of_has, set_of_below, set_of_ext}
 use Rattle.events.proofs.Widths.{disjoint_widen}

@@ -1,9 +1,6 @@
 -- The events that an entry has room for: what the operations on sets make of 16 events.
 -- Assumes nothing.
-use mathlib.Core.Path.{◌≡◌, sym, ap, ◌∙◌}
-use mathlib.Core.Bool.{Bool, true, ◌&&◌}
-use Prim.Native.Nat.{ℕ, ◌^◌, ◌<◌}
-use native.Mathlib.Omega.{arith}
+use Rattle.std.proofs.Common.{◌≡◌, sym, ap, ◌∙◌, Bool, true, ◌&&◌, ℕ, ◌^◌, ◌<◌, arith}
 use Rattle.events.specs.Sets.{room, has, set_of, full, intersection}
 use Rattle.events.proofs.Members.{set_of_has, set_of_below, set_of_ext, set_of_self}
 use Rattle.events.proofs.Machine.{has_beyond}

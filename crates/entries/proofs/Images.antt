@@ -1,13 +1,8 @@
 -- The image of a set under a rename's targets, source by source as the code goes; and the events all of whose sources
 -- lie in a set, as the complement of an image. Assumes nothing.
-use mathlib.Core.Path.{◌≡◌, refl, sym, ap, ap₂, ◌∙◌}
-use mathlib.Core.Bool.{Bool, true, false, not, ◌&&◌, ◌||◌}
-use mathlib.Core.List.{List, [], ◌∷◌}
-use Prim.Native.Nat.{ℕ, zero, suc, ◌+◌, ◌<◌}
-use native.Mathlib.Nat.{not-suc-le-zero, le_of_suc-le-suc}
-use native.Mathlib.Numerals.{add-one}
-use lib.Dec.{eqb}
-use lib.ListN.{length, get_or}
+use Rattle.std.proofs.Common.{◌≡◌, refl, sym, ap, ap₂, ◌∙◌, Bool, true, false, not, ◌&&◌, ◌||◌, List, [], ◌∷◌, ℕ}
+use Rattle.std.proofs.Common.{zero, suc, ◌+◌, ◌<◌, not-suc-le-zero, le_of_suc-le-suc, add-one, eqb, length}
+use Rattle.std.proofs.Common.{get_or}
 use Rattle.events.specs.Sets.{room, has, set_of, any_below, full, single, union, complement, image, all_sources}
 use Rattle.events.proofs.Members.{set_of_has, set_of_empty, set_of_ext, any_ext}
 use Rattle.events.proofs.Booleans.{eqb_sym, or_swap, and_swap}

@@ -1,12 +1,8 @@
 -- The lists of the rules for n events have entries of n events only, n at most 16.
 -- Assumes nothing.
-use mathlib.Core.Logic.{⊎_elim}
-use mathlib.Core.Bool.{not, ◌&&◌}
+use Rattle.std.proofs.Common.{⊎_elim, not, ◌&&◌, List, map, ℕ, ◌^◌, ◌<◌, ◌≤◌, arith, pow_mono}
 use mathlib.Core.List.Memᴰ
-use mathlib.Core.List.{List, map, flat_map}
-use Prim.Native.Nat.{ℕ, ◌^◌, ◌<◌, ◌≤◌}
-use native.Mathlib.Omega.{arith}
-use lib.Pow.{pow_mono}
+use mathlib.Core.List.{flat_map}
 use Rattle.events.specs.Sets.{is_empty, union, disjoint, complement}
 use Rattle.events.proofs.Members.{set_of_below}
 use Rattle.network.specs.Network.{Network, leaf, join, hide, rename}

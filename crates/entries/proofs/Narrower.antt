@@ -1,13 +1,10 @@
 -- On entries of n events, n at most 16, the rules' candidates for 16 events are those for n.
 -- Assumes nothing.
-use mathlib.Core.Path.{◌≡◌, refl, ap, ap₂, ◌∙◌}
-use mathlib.Core.Bool.{Bool, not, ◌&&◌}
-use mathlib.Core.List.{List, [], ◌∷◌, ◌++◌, map, flat_map, Memᴰ}
-use Prim.Native.Nat.{ℕ, ◌^◌, ◌<◌, ◌≤◌}
-use native.Mathlib.Omega.{arith}
-use lib.Dec.{T, eqb→eq, eqb_refl}
+use Rattle.std.proofs.Common.{◌≡◌, refl, ap, ap₂, ◌∙◌, Bool, not, ◌&&◌, List, [], ◌∷◌, ◌++◌, map, ℕ, ◌^◌, ◌<◌}
+use Rattle.std.proofs.Common.{◌≤◌, arith, T, eqb→eq, ne_eqb}
+use mathlib.Core.List.{flat_map, Memᴰ}
+use lib.Dec.{eqb_refl}
 use mir.Facts.{and_yes, yes_and}
-use borrow.Author.Tests.{ne_eqb}
 use Rattle.events.specs.Sets.{has, any_below, union, intersection, difference, disjoint, image, all_sources}
 use Rattle.events.proofs.Members.{set_of_below, any_in, any_out, set_of_ext}
 use Rattle.events.proofs.Machine.{has_beyond}

@@ -1,8 +1,5 @@
 -- Each operation is settled by its contract: two results that meet it are equal. Assumes nothing.
-use mathlib.Core.Path.{◌≡◌}
-use mathlib.Core.Bool.{Bool}
-use mathlib.Core.List.{List}
-use Prim.Native.Nat.{ℕ}
+use Rattle.std.proofs.Common.{◌≡◌, Bool, List, ℕ}
 use Rattle.events.specs.Sets.{image, all_sources}
 use Rattle.events.proofs.Unique.{settled}
 use Rattle.network.specs.Network.{sends}

@@ -1,4 +1,6 @@
 // A pair as one entry of a list, and what one entry, or a left and a right one, yields at a node.
+#![tactic(auto)]
+
 ghost use Rattle.std.specs.Prelude.{◌≡◌};
 ghost use Rattle.events.specs.Sets.{room, image, all_sources};
 ghost use Rattle.network.specs.Network.{sends};
@@ -33,7 +35,7 @@ fn second_of(x: u32) -> EventSet
 }
 
 // What is offered to a list: an entry, if it is to be kept.
-#[derive(Drop)]
+#[derive(Clone, Copy)]
 pub struct Candidate {
     pub kept: bool,
     pub entry: u32,

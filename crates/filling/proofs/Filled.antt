@@ -1,14 +1,8 @@
 -- The list that is built of candidates is their list in order, or is over exactly if that has more than 256 entries; so
 -- the order in which candidates come does not matter. Assumes nothing.
-use mathlib.Core.Path.{◌≡◌, refl, sym, ap, ◌∙◌}
-use mathlib.Core.Bool.{Bool, true, false, cond, true≢false}
-use mathlib.Core.List.{List, [], ◌∷◌, ◌++◌}
-use Prim.Native.Nat.{ℕ, ◌≤◌, ◌<◌}
-use native.Mathlib.Omega.{arith}
+use Rattle.std.proofs.Common.{◌≡◌, refl, sym, ap, ◌∙◌, Bool, true, false, cond, true≢false, List, [], ◌∷◌, ◌++◌}
+use Rattle.std.proofs.Common.{ℕ, ◌≤◌, ◌<◌, arith, leb, ltb, le-leb, leb-true, lt-ltb, le-ltb, ltb-false, length}
 use native.Mathlib.Decide.{dec_le}
-use lib.Dec.{leb, ltb}
-use borrow.Author.Tests.{le-leb, leb-true, lt-ltb, le-ltb, ltb-false}
-use lib.ListN.{length}
 use Rattle.network.specs.Lists.{insert_at, insert_all, in_order}
 use Rattle.network.specs.Verdict.{most_pairs}
 use Rattle.network.proofs.Sorting.{Mem, insert_all_longer, in_order_out, in_order_in, in_order_ascending, ascending_ext}

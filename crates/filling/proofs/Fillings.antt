@@ -1,15 +1,11 @@
 -- A list under construction in its array: what an insertion leaves, and loops that offer one candidate after another.
 -- Assumes nothing.
-use mathlib.Core.Path.{◌≡◌, refl, sym, ap, ap₂, ◌∙◌}
-use mathlib.Core.Bool.{Bool, true, false, cond}
-use mathlib.Core.List.{List, [], ◌∷◌, ◌++◌}
-use Prim.Native.Nat.{ℕ, zero, suc, ◌+◌, ◌-◌, ◌≤◌, ◌<◌}
+use Rattle.std.proofs.Common.{◌≡◌, refl, sym, ap, ap₂, ◌∙◌, Bool, true, false, cond, List, [], ◌∷◌, ◌++◌, ℕ}
+use Rattle.std.proofs.Common.{zero, suc, ◌+◌, ◌-◌, ◌≤◌, ◌<◌, arith, leb, le-leb, leb-true, length, take, drop}
+use Rattle.std.proofs.Common.{get_or, length-append, take-append-drop, take_at, drop_at, drop-drop}
 use native.Mathlib.Nat.{sub-zero}
-use native.Mathlib.Omega.{arith}
-use lib.Dec.{leb}
-use borrow.Author.Tests.{le-leb, lt-leb, leb-true}
-use lib.ListN.{length, take, drop, get_or, length-append, length-replicate, take-append-drop}
-use lib.Seq.{take_at, drop_at, drop-drop}
+use borrow.Author.Tests.{lt-leb}
+use lib.ListN.{length-replicate}
 use Rattle.network.specs.Lists.{insert_at, Ascending}
 use Rattle.network.specs.Verdict.{most_pairs}
 use Rattle.network.proofs.Sorting.{insert_ascending}

@@ -1,13 +1,10 @@
 -- Loops that offer one candidate after another: what is still to be offered, offered to what the array holds, gives
 -- what is wanted. Every list operation's loop has this invariant. Assumes nothing.
-use mathlib.Core.Path.{◌≡◌, refl, sym, ap, ◌∙◌, subst}
-use mathlib.Core.Bool.{Bool, true, false}
-use mathlib.Core.List.{List, [], ◌∷◌, ◌++◌, map, flat_map}
-use Prim.Native.Nat.{ℕ, ◌+◌, ◌≤◌, ◌<◌}
-use native.Mathlib.Numerals.{add-one}
-use native.Mathlib.Omega.{arith}
-use lib.ListN.{length, take, drop, get_or, replicate, length-replicate, drop_of_length-le}
-use lib.Seq.{drop-cons}
+use Rattle.std.proofs.Common.{◌≡◌, refl, sym, ap, ◌∙◌, subst, Bool, true, false, List, [], ◌∷◌, ◌++◌, map, ℕ}
+use Rattle.std.proofs.Common.{◌+◌, ◌≤◌, ◌<◌, add-one, arith, length, take, drop, get_or, replicate}
+use Rattle.std.proofs.Common.{drop_of_length-le, drop-cons}
+use mathlib.Core.List.{flat_map}
+use lib.ListN.{length-replicate}
 use Rattle.network.specs.Lists.{keep_if, together_candidate, alone_candidate, join_candidates, Ascending}
 use Rattle.network.specs.Verdict.{most_pairs}
 use Rattle.filling.specs.Building.{Filling, over, state_of, offer, offer_all, filled, zeros}

@@ -1,16 +1,14 @@
 -- Where an entry belongs in an ascending list: the search by halves, insertion by index, and the shift that makes room
 -- for it. Assumes nothing.
-use mathlib.Core.Path.{◌≡◌, refl, sym, ap, ◌∙◌}
-use mathlib.Core.List.{List, [], ◌∷◌, ◌++◌, append_assoc, Memᴰ}
-use Prim.Native.Nat.{ℕ, zero, suc, ◌+◌, ◌≤◌, ◌<◌, zero-le, suc-le-suc}
-use native.Mathlib.Nat.{not-suc-le-zero, le_of_suc-le-suc, zero-lt-suc}
-use native.Mathlib.Numerals.{add-one}
-use native.Mathlib.Omega.{arith}
+use Rattle.std.proofs.Common.{◌≡◌, refl, sym, ap, ◌∙◌, List, [], ◌∷◌, ◌++◌, append_assoc, ℕ, zero, suc, ◌+◌, ◌≤◌}
+use Rattle.std.proofs.Common.{◌<◌, zero-le, suc-le-suc, not-suc-le-zero, le_of_suc-le-suc, zero-lt-suc, add-one}
+use Rattle.std.proofs.Common.{arith, lt-ltb, le-ltb, eq-eqb, ne_eqb, length, take, drop, get_or, set}
+use Rattle.std.proofs.Common.{length-append, length-take, length-drop, length-set, take-append-drop}
+use Rattle.std.proofs.Common.{drop_of_length-le, drop-cons, take-suc-set, drop-set-lt, length-take-le, take_at}
+use Rattle.std.proofs.Common.{take-take, get_or-take}
+use mathlib.Core.List.{Memᴰ}
 use native.Mathlib.Decide.{dec_lt}
-use borrow.Author.Tests.{lt-ltb, le-ltb, eq-eqb, ne_eqb}
-use lib.ListN.{length, take, drop, get_or, set, length-append, length-take, length-drop, length-set, take-append-drop}
-use lib.ListN.{drop_of_length-le}
-use lib.Seq.{drop-cons, take-suc-set, drop-set-lt, length-take-le, take_at, take-take, drop-append-le, get_or-take}
+use lib.Seq.{drop-append-le}
 use Rattle.network.specs.Lists.{insert_at, Ascending}
 use Rattle.filling.specs.Building.{Held, Place, Shifted}
 

@@ -1,15 +1,10 @@
 -- Storing an array in a section, entry by entry.
 -- Assumes nothing.
-use mathlib.Core.Path.{◌≡◌, refl, sym, ap, ap₂, ◌∙◌}
-use mathlib.Core.List.{List, ◌++◌, append_assoc}
-use mathlib.Core.Bool.{Bool, true, false}
-use Prim.Native.Nat.{ℕ, suc, ◌+◌, ◌≤◌, ◌<◌, min}
-use native.Mathlib.Numerals.{add-one}
-use native.Mathlib.Omega.{arith}
-use lib.ListN.{length, take, drop, get_or, set, drop_of_length-le, length-append, length-drop}
-use lib.Dec.{ltb}
-use borrow.Author.Tests.{ltb-true, ltb-false}
-use lib.Seq.{take-suc, drop-cons, set_at, length-take-le, take_all}
+use Rattle.std.proofs.Common.{◌≡◌, refl, sym, ap, ap₂, ◌∙◌, List, ◌++◌, append_assoc, Bool, true, false, ℕ, suc}
+use Rattle.std.proofs.Common.{◌+◌, ◌≤◌, ◌<◌, min, add-one, arith, length, take, drop, get_or, set}
+use Rattle.std.proofs.Common.{drop_of_length-le, length-append, length-drop, ltb, ltb-true, ltb-false, take-suc}
+use Rattle.std.proofs.Common.{drop-cons, length-take-le, take_all}
+use lib.Seq.{set_at}
 use Rattle.filling.specs.Building.{stored}
 
 -- the first i entries are stored

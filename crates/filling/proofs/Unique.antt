@@ -1,9 +1,6 @@
 -- Each operation is settled by its contract: two results that meet it are equal, and so are two arrays or sections
 -- afterwards. Assumes nothing.
-use mathlib.Core.Path.{◌≡◌}
-use mathlib.Core.Bool.{Bool}
-use mathlib.Core.List.{List}
-use Prim.Native.Nat.{ℕ}
+use Rattle.std.proofs.Common.{◌≡◌, Bool, List, ℕ}
 use Rattle.events.proofs.Unique.{settled}
 use Rattle.filling.specs.Building.{Filling, Made, stored}
 

@@ -1,4 +1,6 @@
 // One node's list while it is filled: sorted insertion into 256 entries, over at a 257th; and its section.
+#![tactic(auto)]
+
 ghost use Rattle.std.specs.Prelude.{◌≡◌, ◌<◌, ◌≤◌, min, length, take};
 ghost use Rattle.network.specs.Lists.{keep_if};
 ghost use Rattle.filling.specs.Building.{state_of, offer, offer_all, Held, Made, Place, Shifted, stored};
@@ -6,7 +8,7 @@ ghost use Rattle.filling.specs.Building.{state_of, offer, offer_all, Held, Made,
 use entries::Candidate;
 
 // How many pairs a list under construction has, and whether a 257th was offered to it.
-#[derive(Drop)]
+#[derive(Clone, Copy)]
 pub struct Tally {
     pub count: usize,
     pub over: bool,
@@ -95,7 +97,7 @@ pub fn offer_candidate(entries: &mut [u32; 256], t: Tally, c: Candidate) -> Tall
 }
 
 // A node's list: its pairs ascending in the first `count` entries, then zeros; or over, at a 257th different pair.
-#[derive(Drop)]
+#[derive(Clone, Copy)]
 pub struct PairList {
     pub entries: [u32; 256],
     pub count: usize,

@@ -1,10 +1,6 @@
 -- The crate's promises, each by citing.
 -- Assumes nothing.
-use mathlib.Core.Path.{◌≡◌, sym, ap, ◌∙◌}
-use mathlib.Core.List.{List}
-use Prim.Native.Nat.{ℕ}
-use lib.Dec.{ltb}
-use lib.ListN.{length}
+use Rattle.std.proofs.Common.{◌≡◌, sym, ap, ◌∙◌, List, ℕ, ltb, length}
 use Rattle.network.specs.Lists.{in_order}
 use Rattle.network.specs.Verdict.{most_pairs}
 use Rattle.network.proofs.Packing.{first_pack, second_pack, pack_unpack}

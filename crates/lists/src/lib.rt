@@ -1,4 +1,6 @@
 // The list of a join, a hide or a rename, from the lists of its operands.
+#![tactic(auto)]
+
 ghost use mathlib.Core.List.{map, flat_map};
 ghost use Rattle.std.specs.Prelude.{take};
 ghost use Rattle.network.specs.Lists.{together_candidate, alone_candidate};
