@@ -1,11 +1,7 @@
 -- The loop that clears a part, entry by entry. Assumes nothing.
-use mathlib.Core.Path.{◌≡◌, sym, ap, ◌∙◌}
-use mathlib.Core.List.{List, [], ◌∷◌, ◌++◌}
-use Prim.Native.Nat.{ℕ, ◌+◌, ◌≤◌, ◌<◌}
-use native.Mathlib.Numerals.{add-one}
-use native.Mathlib.Omega.{arith}
-use lib.ListN.{length, take, set, replicate-append-replicate}
-use lib.Seq.{take-suc-set, take_all}
+use Rattle.std.proofs.Common.{◌≡◌, sym, ap, ◌∙◌, List, [], ◌∷◌, ◌++◌, ℕ, ◌+◌, ◌≤◌, ◌<◌, add-one, arith, length}
+use Rattle.std.proofs.Common.{take, set, take-suc-set, take_all}
+use lib.ListN.{replicate-append-replicate}
 use Rattle.filling.specs.Building.{zeros}
 
 zeros_more : (i : ℕ) → zeros i ++ (0 ∷ []) ≡ zeros (i + 1)

@@ -1,13 +1,7 @@
 -- The answer and the area at the end: without room, after a pass, after a stop, and for a file that is not readable.
 -- Assumes nothing.
-use mathlib.Core.Path.{◌≡◌, refl, sym, ap, ◌∙◌}
-use mathlib.Core.Bool.{true, false}
-use mathlib.Core.List.{List, ◌++◌}
-use Prim.Native.Nat.{ℕ, ◌*◌, ◌≤◌, ◌<◌}
-use native.Mathlib.Omega.{arith}
-use lib.ListN.{length, take, drop}
-use lib.Seq.{length-take-le, take_all}
-use borrow.Author.Tests.{lt-ltb, le-ltb}
+use Rattle.std.proofs.Common.{◌≡◌, refl, sym, ap, ◌∙◌, true, false, List, ◌++◌, ℕ, ◌*◌, ◌≤◌, ◌<◌, arith, length}
+use Rattle.std.proofs.Common.{take, drop, length-take-le, take_all, lt-ltb, le-ltb}
 use Rattle.network.specs.Network.{Network}
 use Rattle.network.specs.Model.{Model, networks}
 use Rattle.network.specs.Verdict.{Verdict, pass, inconclusive, refused, most_pairs, verdict}

@@ -1,11 +1,6 @@
 -- The reader's refusal numbers are at most 10. Assumes nothing.
-use mathlib.Core.Path.{◌≡◌, refl}
-use mathlib.Core.Bool.{Bool, true, false, cond}
-use mathlib.Core.List.{List}
-use Prim.Native.Nat.{ℕ, zero, suc, ◌≤◌}
-use native.Mathlib.Omega.{arith}
-use lib.Dec.{ltb, eqb}
-use lib.ListN.{length, drop}
+use Rattle.std.proofs.Common.{◌≡◌, refl, Bool, true, false, cond, List, ℕ, zero, suc, ◌≤◌, arith, ltb, eqb}
+use Rattle.std.proofs.Common.{length, drop}
 use Rattle.tests.specs.declared.Refusal.{Refusal}
 use Rattle.records.specs.declared.Record.{Record}
 use Rattle.progress.specs.declared.Progress.{Progress}
@@ -19,7 +14,6 @@ use Rattle.reader.specs.declared.Scan.{Scan}
 use Rattle.reader.specs.declared.Scan.TheVariants as Scanned
 use Rattle.reader.specs.declared.Reading.TheVariants.{Unreadable}
 use Rattle.reader.specs.Scan.{scan_from, scan_of, to_reading, reading_of}
-use Rattle.verdict.specs.declared.Answer.TheVariants.{Refused}
 
 most_of : (b : Bool) (x y : ℕ) → x ≤ 10 → y ≤ 10 → cond b x y ≤ 10
 most_of true x y p q = p

@@ -1,16 +1,9 @@
 -- What the analysis of a file can come to: a refusal of the reader, 13, or the verdict on the file's model.
 -- Assumes nothing.
-use mathlib.Core.Path.{◌≡◌, refl, sym, ap, ◌∙◌}
-use mathlib.Core.Bool.{Bool, true, false}
-use mathlib.Core.List.{List, ◌++◌}
-use Prim.Native.Nat.{ℕ, ◌≤◌, ◌<◌}
-use native.Mathlib.Omega.{arith}
-use lib.Dec.{ltb}
-use lib.ListN.{length, drop}
-use borrow.Author.Tests.{ltb-true, ltb-false}
+use Rattle.std.proofs.Common.{◌≡◌, refl, sym, ap, ◌∙◌, Bool, true, false, List, ◌++◌, ℕ, ◌≤◌, ◌<◌, arith, ltb}
+use Rattle.std.proofs.Common.{length, drop, ltb-true, ltb-false}
 use Rattle.network.specs.Verdict.{Verdict, pass, inconclusive, refused, verdict}
 use Rattle.tests.specs.declared.Refusal.{Refusal}
-use Rattle.reader.specs.declared.Scan.TheVariants as Scanned
 use Rattle.reader.specs.declared.Reading.{Reading}
 use Rattle.reader.specs.declared.Reading.TheVariants.{Readable, Unreadable}
 use Rattle.reader.specs.Scan.{said_of, reading_of, readable, says}

@@ -1,13 +1,7 @@
 -- The promises of the analysis, each from the verdict on the file's model. Assumes nothing.
-use mathlib.Core.Path.{◌≡◌, sym, ap, ◌∙◌}
-use mathlib.Core.Bool.{false}
-use mathlib.Core.Logic.{◌↔◌}
-use mathlib.Core.List.{List, [], ◌∷◌, ◌++◌}
-use Prim.Native.Nat.{ℕ, zero, suc, ◌-◌, ◌<◌, ◌≤◌}
-use native.Mathlib.Omega.{arith}
-use lib.ListN.{length, take, drop, get_or}
+use Rattle.std.proofs.Common.{◌≡◌, sym, ap, ◌∙◌, false, ◌↔◌, List, [], ◌∷◌, ◌++◌, ℕ, zero, suc, ◌-◌, ◌<◌, ◌≤◌}
+use Rattle.std.proofs.Common.{arith, length, take, drop, get_or, ltb-true, ltb-false}
 use lib.Seq.{drop-append_seam}
-use borrow.Author.Tests.{ltb-true, ltb-false}
 use Rattle.network.specs.Network.{Network, Formed}
 use Rattle.network.specs.Walks.{SilenceBelow}
 use Rattle.network.specs.Rules.{Flag}

@@ -1,8 +1,6 @@
 -- The contract of `analyse` settles its answer and the area for every input: two outcomes that meet it are equal. It is
 -- the only public function. Assumes nothing.
-use mathlib.Core.Path.{◌≡◌}
-use mathlib.Core.List.{List}
-use Prim.Native.Nat.{ℕ}
+use Rattle.std.proofs.Common.{◌≡◌, List, ℕ}
 use Rattle.events.proofs.Unique.{settled}
 use Rattle.verdict.specs.declared.Answer.{Answer}
 use Rattle.analysis.specs.Analysis.{analysis_of, area_after}

@@ -1,4 +1,6 @@
 // The analysis of a file: the answer, and the lists of its nodes in a lent working area.
+#![tactic(auto)]
+
 ghost use Rattle.std.specs.Prelude.{◌≡◌, length};
 ghost use Rattle.reader.specs.Scan.{readable, says};
 ghost use Rattle.reader.specs.File.{file_model};
@@ -38,7 +40,8 @@ fn pass_over(bytes: &[u8], nodes: u32, area: &mut [u32]) -> Answer
     ensures area { area.new ≡ sections_after (file_model bytes.now) area.old }
 {
     let need = 256 * nodes as usize;
-    if area.len() < need {
+    let is_short = area.len() < need;
+    if is_short {
         return Answer::Refused(Refusal {
             number: 13,
             place: 0,

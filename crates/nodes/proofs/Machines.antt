@@ -1,12 +1,7 @@
 -- The bytes behind a machine's record in a readable file are its step records, and its model's machine is what they
 -- say. Assumes nothing.
-use mathlib.Core.Path.{◌≡◌, refl, sym, ap, ap₂, ◌∙◌}
-use mathlib.Core.Bool.{Bool, true, false}
-use mathlib.Core.List.{List, [], ◌∷◌}
-use Prim.Native.Nat.{ℕ, zero, suc, ◌+◌, ◌-◌, ◌*◌, ◌≤◌, ◌<◌}
-use native.Mathlib.Omega.{arith}
-use lib.ListN.{length, take, drop, get_or, length-drop}
-use borrow.Author.Tests.{eqb-true}
+use Rattle.std.proofs.Common.{◌≡◌, refl, sym, ap, ap₂, ◌∙◌, Bool, true, false, List, [], ◌∷◌, ℕ, zero, suc, ◌+◌}
+use Rattle.std.proofs.Common.{◌-◌, ◌*◌, ◌≤◌, ◌<◌, arith, length, take, drop, get_or, length-drop, eqb-true}
 use Rattle.network.specs.Machine.{Step, Machine, MachineFormed}
 use Rattle.network.specs.Model.{idle}
 use Rattle.network.proofs.Nodes.{getD-member}

@@ -1,14 +1,10 @@
 -- A node's list as the code builds it is the rule's: a leaf's from the bytes of its machine, the others' from their
 -- operands' lists; and what storing it leaves in the area. Assumes nothing.
-use mathlib.Core.Path.{◌≡◌, refl, sym, ap, ap₂, ◌∙◌}
-use mathlib.Core.Bool.{Bool, true, false, ◌&&◌}
-use mathlib.Core.List.{List, ◌++◌, map, flat_map, append-nil}
-use Prim.Native.Nat.{ℕ, ◌+◌, ◌-◌, ◌*◌, ◌≤◌, ◌<◌}
-use native.Mathlib.Omega.{arith}
-use lib.Dec.{eqb}
-use lib.ListN.{length, take, drop, get_or, length-drop, drop_of_length-le}
-use lib.Seq.{length-take-le, take_all, drop-drop}
-use borrow.Author.Tests.{eqb-true, eq-eqb, ne_eqb, ltb-false}
+use Rattle.std.proofs.Common.{◌≡◌, refl, sym, ap, ap₂, ◌∙◌, Bool, true, false, ◌&&◌, List, ◌++◌, map, append-nil}
+use Rattle.std.proofs.Common.{ℕ, ◌+◌, ◌-◌, ◌*◌, ◌≤◌, ◌<◌, arith, eqb, length, take, drop, get_or, length-drop}
+use Rattle.std.proofs.Common.{drop_of_length-le, length-take-le, take_all, drop-drop, eqb-true, eq-eqb, ne_eqb}
+use Rattle.std.proofs.Common.{ltb-false}
+use mathlib.Core.List.{flat_map}
 use borrow.Rule.Slice.PartMut.{put_mid}
 use Rattle.events.specs.Sets.{room}
 use Rattle.network.specs.Machine.{MachineFormed}

@@ -1,10 +1,6 @@
 -- Two outcomes that meet a contract of this crate are equal: where operands stand, a leaf's flag, and, for a list that
 -- is built, its count, whether it is over, and every entry of the area. Assumes nothing.
-use mathlib.Core.Path.{◌≡◌, refl, sym, ◌∙◌}
-use mathlib.Core.Bool.{Bool, true, false, ◌&&◌}
-use mathlib.Core.List.{List}
-use Prim.Native.Nat.{ℕ}
-use lib.ListN.{get_or}
+use Rattle.std.proofs.Common.{◌≡◌, refl, sym, ◌∙◌, Bool, true, false, ◌&&◌, List, ℕ, get_or}
 use Rattle.events.proofs.Unique.{settled}
 use Rattle.network.specs.Model.{Model, idle}
 use Rattle.network.specs.Loops.{spins}

@@ -1,4 +1,6 @@
 // A node of a readable file: where its operands' lists stand, a leaf's flag, and its list, built and stored.
+#![tactic(auto)]
+
 ghost use Rattle.std.specs.Prelude.{◌≡◌, true, ◌&&◌, ◌*◌, ◌+◌, ◌<◌, ◌≤◌, length, get_or};
 ghost use Rattle.network.specs.Network.{leaf};
 ghost use Rattle.network.specs.Model.{idle};
@@ -16,7 +18,7 @@ use filling::{PairList, Tally};
 use records::Record;
 
 // Where the lists of a node's operands stand in the working area, and how many pairs each has; none: no pairs.
-#[derive(Drop)]
+#[derive(Clone, Copy)]
 pub struct Operands {
     pub left: usize,
     pub lefts: usize,

@@ -1,5 +1,5 @@
 -- Document 01's example prints its nine lines, by computing the definitions on its 28 bytes. Assumes nothing.
-use mathlib.Core.Path.{refl}
+use Rattle.std.proofs.Common.{refl}
 use mathlib.Core.List.{flat_map}
 use Rattle.events.specs.Sets.{has, set_of, any_below, count}
 use Rattle.network.specs.Machine.{is_label, is_silent}

@@ -1,11 +1,8 @@
 -- Texts stored in a line one behind another: the line is what they say together, then zeros. Assumes nothing.
-use mathlib.Core.Path.{◌≡◌, refl, sym, ap, ◌∙◌}
-use mathlib.Core.List.{List, [], ◌∷◌, ◌++◌, append-nil}
-use Prim.Native.Nat.{ℕ, suc, ◌+◌, ◌-◌, ◌≤◌, ◌<◌}
-use native.Mathlib.Numerals.{add-one}
-use native.Mathlib.Omega.{arith}
-use lib.ListN.{length, take, get_or, set, length-append}
-use lib.Seq.{sets, set_comm, append_snoc, set_at, take-suc, take_all, length-take-le}
+use Rattle.std.proofs.Common.{◌≡◌, refl, sym, ap, ◌∙◌, List, [], ◌∷◌, ◌++◌, append-nil, ℕ, suc, ◌+◌, ◌-◌, ◌≤◌}
+use Rattle.std.proofs.Common.{◌<◌, add-one, arith, length, take, get_or, set, length-append, take-suc, take_all}
+use Rattle.std.proofs.Common.{length-take-le}
+use lib.Seq.{sets, set_comm, append_snoc, set_at}
 use Rattle.filling.specs.Building.{zeros}
 use Rattle.report.specs.Text.{framed}
 use Rattle.report.specs.Laying.{laid, Laid}

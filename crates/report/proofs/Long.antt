@@ -1,11 +1,5 @@
 -- A longer input than 4,096 bytes is refused with 1 at 0, and so are its first 4,097 bytes. Assumes nothing.
-use mathlib.Core.Path.{◌≡◌}
-use mathlib.Core.List.{List}
-use Prim.Native.Nat.{ℕ, ◌<◌}
-use native.Mathlib.Omega.{arith}
-use lib.ListN.{length, take}
-use lib.Seq.{length-take-le}
-use borrow.Author.Tests.{lt-ltb}
+use Rattle.std.proofs.Common.{◌≡◌, List, ℕ, ◌<◌, arith, length, take, length-take-le, lt-ltb}
 use Rattle.reader.specs.Scan.{reading_of}
 use Rattle.report.specs.Text.{decimal_in, decimal, line, first_line}
 use Rattle.report.specs.Printed.{verdict_at, printed_for, printed}

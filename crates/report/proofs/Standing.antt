@@ -1,11 +1,6 @@
 -- A line while it is made: what stands in it is its text so far, then zeros. Assumes nothing.
-use mathlib.Core.Path.{◌≡◌, refl, ap, ◌∙◌}
-use mathlib.Core.Bool.{Bool, true, false, cond}
-use mathlib.Core.List.{List, [], ◌∷◌, ◌++◌, append_assoc}
-use Prim.Native.Nat.{ℕ, ◌+◌, ◌≤◌, ◌<◌}
-use native.Mathlib.Omega.{arith}
-use lib.Dec.{eqb}
-use lib.ListN.{length, length-append, replicate}
+use Rattle.std.proofs.Common.{◌≡◌, refl, ap, ◌∙◌, Bool, true, false, cond, List, [], ◌∷◌, ◌++◌, append_assoc, ℕ}
+use Rattle.std.proofs.Common.{◌+◌, ◌≤◌, ◌<◌, arith, eqb, length, length-append, replicate}
 use Rattle.network.specs.Verdict.{refused}
 use Rattle.records.specs.Kinds.{leaf_kind, join_kind, hide_kind, rename_kind}
 use Rattle.filling.specs.Building.{zeros}

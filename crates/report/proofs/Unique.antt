@@ -1,8 +1,5 @@
 -- Each public function is settled by its contract: two results that meet it are equal. Assumes nothing.
-use mathlib.Core.Path.{◌≡◌}
-use mathlib.Core.List.{List}
-use Prim.Native.Nat.{ℕ}
-use lib.ListN.{length}
+use Rattle.std.proofs.Common.{◌≡◌, List, ℕ, length}
 use Rattle.events.proofs.Unique.{settled}
 use Rattle.verdict.specs.declared.Answer.{Answer}
 use Rattle.verdict.specs.Answers.{verdict_of}

@@ -1,4 +1,6 @@
 // The lines of the printed result: each function gives document 01's text of one, in bytes.
+#![tactic(auto)]
+
 ghost use Rattle.std.specs.Prelude.{◌≡◌, [], ◌∷◌, ◌++◌, ◌<◌, ◌≤◌, ◌+◌, length};
 ghost use Rattle.network.specs.Verdict.{pass, inconclusive, refused};
 ghost use Rattle.verdict.specs.Answers.{verdict_of};
@@ -9,7 +11,7 @@ ghost use Rattle.report.specs.Laying.{Laid};
 use verdict::Answer;
 
 // A line, its line feed included, then zeros; how many bytes it has.
-#[derive(Drop)]
+#[derive(Clone, Copy)]
 pub struct Line {
     pub bytes: [u8; 40],
     pub length: usize,
@@ -186,7 +188,8 @@ pub fn pair_count(section: &[u32]) -> usize
 {
     let mut i = 0;
     while i < section.len() {
-        if section[i] == 0 {
+        let ends = section[i] == 0;
+        if ends {
             return i;
         }
         i += 1;

@@ -1,12 +1,7 @@
 -- What the pass sees at node k: where its operands' lists stand, and what they say of 12, of the flag and of its list.
 -- Assumes nothing.
-use mathlib.Core.Path.{◌≡◌, refl}
-use mathlib.Core.Bool.{Bool, true, false, ◌||◌, cond}
-use mathlib.Core.List.{List, [], ◌++◌}
-use Prim.Native.Nat.{ℕ, ◌+◌, ◌*◌, ◌≤◌, ◌<◌}
-use native.Mathlib.Omega.{arith}
-use lib.ListN.{length, take, drop, get_or}
-use borrow.Author.Tests.{eqb-true}
+use Rattle.std.proofs.Common.{◌≡◌, refl, Bool, true, false, ◌||◌, cond, List, [], ◌++◌, ℕ, ◌+◌, ◌*◌, ◌≤◌, ◌<◌}
+use Rattle.std.proofs.Common.{arith, length, take, drop, get_or, eqb-true}
 use Rattle.network.specs.Model.{Model, node_network}
 use Rattle.network.specs.Loops.{any_of}
 use Rattle.network.specs.Lists.{list_of, flag_of}

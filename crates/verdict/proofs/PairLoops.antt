@@ -1,14 +1,10 @@
 -- The two loops over pairs at a node ask what document 01 asks: the one over the operands' lists 12, the one at a hide
 -- the flag. Assumes nothing.
-use mathlib.Core.Path.{◌≡◌, sym, ap, ap₂, ◌∙◌}
-use mathlib.Core.Bool.{Bool, true, false, ◌||◌, cond}
-use mathlib.Core.List.{List, ◌++◌}
-use Prim.Native.Nat.{ℕ, ◌+◌, ◌-◌, ◌*◌, ◌≤◌, ◌<◌}
-use native.Mathlib.Omega.{arith}
+use Rattle.std.proofs.Common.{◌≡◌, sym, ap, ap₂, ◌∙◌, Bool, true, false, ◌||◌, cond, List, ◌++◌, ℕ, ◌+◌, ◌-◌}
+use Rattle.std.proofs.Common.{◌*◌, ◌≤◌, ◌<◌, arith, length, take, drop, get_or, length-append, length-drop}
+use Rattle.std.proofs.Common.{length-take-le, get_or-take, get_or-drop, get_or-append-add, lt-ltb, le-ltb}
 use native.Mathlib.Decide.{dec_lt}
-use lib.ListN.{length, take, drop, get_or, length-append, length-drop, get_or-append}
-use lib.Seq.{length-take-le, get_or-take, get_or-drop, get_or-append-add}
-use borrow.Author.Tests.{lt-ltb, le-ltb}
+use lib.ListN.{get_or-append}
 use Rattle.network.specs.Model.{node_network}
 use Rattle.network.specs.Loops.{any_of}
 use Rattle.network.specs.Lists.{flag_of}

@@ -1,19 +1,14 @@
 -- The pass over the nodes of a readable file: what holds when it comes to node k, what it sees there, and how it goes
 -- on or stops. Assumes nothing.
-use mathlib.Core.Path.{◌≡◌, refl, sym, ap, ap₂, ◌∙◌}
-use mathlib.Core.Bool.{true, false}
-use mathlib.Core.Logic.{◌≢◌}
-use mathlib.Core.List.{List, [], ◌∷◌, ◌++◌, flat_map, append_assoc}
-use Prim.Native.Nat.{ℕ, suc, ◌+◌, ◌-◌, ◌*◌, ◌≤◌, ◌<◌}
-use native.Mathlib.Nat.{not-suc-le-zero}
-use native.Mathlib.Numerals.{add-one}
+use Rattle.std.proofs.Common.{◌≡◌, refl, sym, ap, ap₂, ◌∙◌, true, false, ◌≢◌, List, [], ◌∷◌, ◌++◌, append_assoc}
+use Rattle.std.proofs.Common.{ℕ, suc, ◌+◌, ◌-◌, ◌*◌, ◌≤◌, ◌<◌, not-suc-le-zero, add-one, arith, ltb, length}
+use Rattle.std.proofs.Common.{take, drop, get_or, set, replicate, length-append, length-drop, length-set}
+use Rattle.std.proofs.Common.{take-suc, drop-cons, take_at, drop-drop, length-take-le, get_or-take}
+use Rattle.std.proofs.Common.{get_or-set_same, get_or-set_other, ltb-false}
+use mathlib.Core.List.{flat_map}
 use native.Mathlib.Decide.{dec_lt}
-use native.Mathlib.Omega.{arith}
-use lib.Dec.{ltb}
-use lib.ListN.{length, take, drop, get_or, set, replicate, length-append, length-drop, length-set, length-replicate}
-use lib.Seq.{take-suc, drop-cons, take_at, drop-append-add, drop-drop, length-take-le, get_or-take, get_or-set_same}
-use lib.Seq.{get_or-set_other}
-use borrow.Author.Tests.{ltb-false}
+use lib.ListN.{length-replicate}
+use lib.Seq.{drop-append-add}
 use Rattle.network.specs.Network.{Network}
 use Rattle.network.specs.Model.{Model, nowhere, networks, node_network, bound}
 use Rattle.network.specs.Lists.{list_of, flag_of}

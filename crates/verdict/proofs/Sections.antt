@@ -1,12 +1,10 @@
 -- Sections one behind another: their length, the list that stands in each, and one section more.
 -- Assumes nothing.
-use mathlib.Core.Path.{◌≡◌, refl, sym, ap, ◌∙◌}
-use mathlib.Core.List.{List, [], ◌∷◌, ◌++◌, flat_map, append_assoc, append-nil}
-use Prim.Native.Nat.{ℕ, zero, suc, ◌+◌, ◌-◌, ◌*◌, ◌≤◌, ◌<◌}
-use native.Mathlib.Nat.{not-suc-le-zero, le_of_suc-le-suc}
-use native.Mathlib.Omega.{arith}
-use lib.ListN.{length, take, drop, get_or, length-append}
-use lib.Seq.{take_at, drop-append-add}
+use Rattle.std.proofs.Common.{◌≡◌, refl, sym, ap, ◌∙◌, List, [], ◌∷◌, ◌++◌, append_assoc, append-nil, ℕ, zero}
+use Rattle.std.proofs.Common.{suc, ◌+◌, ◌-◌, ◌*◌, ◌≤◌, ◌<◌, not-suc-le-zero, le_of_suc-le-suc, arith, length}
+use Rattle.std.proofs.Common.{take, drop, get_or, length-append, take_at}
+use mathlib.Core.List.{flat_map}
+use lib.Seq.{drop-append-add}
 use Rattle.network.specs.Network.{Network}
 use Rattle.network.specs.Model.{nowhere}
 use Rattle.network.specs.Lists.{list_of}

@@ -1,11 +1,7 @@
 -- The loop over the nodes of a readable file: what holds whenever it comes round, and what each way out of it answers.
 -- Assumes nothing.
-use mathlib.Core.Path.{◌≡◌, sym, ap, ◌∙◌}
-use mathlib.Core.Bool.{Bool, true, false}
-use mathlib.Core.List.{List}
-use Prim.Native.Nat.{ℕ, suc, ◌+◌, ◌*◌, ◌≤◌, ◌<◌}
-use native.Mathlib.Omega.{arith}
-use lib.ListN.{length, set, replicate}
+use Rattle.std.proofs.Common.{◌≡◌, sym, ap, ◌∙◌, Bool, true, false, List, ℕ, suc, ◌+◌, ◌*◌, ◌≤◌, ◌<◌, arith}
+use Rattle.std.proofs.Common.{length, set, replicate}
 use Rattle.network.specs.Model.{networks, node_network, bound}
 use Rattle.network.specs.Lists.{list_of, flag_of}
 use Rattle.network.specs.Verdict.{pass, most_pairs, operand_empty}

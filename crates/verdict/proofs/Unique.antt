@@ -1,14 +1,12 @@
 -- The contract of `sweep` settles its answer and every entry of the area: two outcomes that meet it are equal. It is the
 -- only public function. Assumes nothing.
-use mathlib.Core.Path.{◌≡◌}
-use mathlib.Core.List.{List}
+use Rattle.std.proofs.Common.{◌≡◌, List, ℕ}
 use Rattle.events.proofs.Unique.{settled}
 use Rattle.network.specs.Model.{Model}
 use Rattle.network.specs.Verdict.{verdict}
 use Rattle.verdict.specs.declared.Answer.{Answer}
 use Rattle.verdict.specs.Answers.{answer_for}
 use Rattle.verdict.specs.Sweeping.{swept_to, through}
-use Prim.Native.Nat.{ℕ}
 
 pub sweep_unique : (M : Model) (area : List ℕ) (r r' : Answer) (a a' : List ℕ) → r ≡ answer_for (verdict M)
     → a ≡ swept_to M (through M (verdict M)) area → r' ≡ answer_for (verdict M)

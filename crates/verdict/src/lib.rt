@@ -1,4 +1,6 @@
 // The pass over the nodes of a readable file, in order, to the first that gives anything.
+#![tactic(auto)]
+
 ghost use Rattle.std.specs.Prelude.{◌≡◌, ◌*◌, ◌≤◌, length};
 ghost use Rattle.events.specs.Sets.{room, is_empty, included};
 ghost use Rattle.network.specs.Model.{bound};
@@ -17,13 +19,13 @@ use records::Record;
 use tests::Refusal;
 
 // What a pass tells: the bound.
-#[derive(Drop)]
+#[derive(Clone, Copy)]
 pub struct Passed {
     pub bound: u64,
 }
 
 // The answer for a file: pass with the bound, inconclusive with the node, or a refusal.
-#[derive(Drop)]
+#[derive(Clone, Copy)]
 pub enum Answer {
     Pass(Passed),
     Inconclusive(u32),
@@ -65,7 +67,8 @@ fn pair_place(o: Operands, i: usize) -> usize
 fn hidden_pairs(r: Record, count: usize) -> usize
     ensures { result ≡ hidden_pairs r count }
 {
-    if r.kind == records::HIDE {
+    let hides = r.kind == records::HIDE;
+    if hides {
         return count;
     }
     0
