@@ -1,7 +1,11 @@
 // Each argument names a file with one call of the writer: the used length, the kind and its seventeen numbers, four
 // bytes each, low byte first, then the buffer. A line is printed: the name, the answer, and the buffer then, in hex.
+#![tactic(auto)]
+
 ghost use Rattle.std.specs.Prelude.{◌<◌};
 
+use std::fs::File;
+use std::{env, io};
 use writer::Written;
 
 // Number k of the file.
@@ -16,73 +20,67 @@ fn number(b: &[u8], k: usize) -> u32
 // The seventeen numbers behind the used length and the kind.
 fn numbers(b: &[u8]) -> [u32; 17] {
     let mut xs = [0u32; 17];
-    let mut i: usize = 0;
-    while i < 17 {
+    for i in 0..17 {
         xs[i] = number(b, i + 2);
-        i += 1;
     }
     xs
 }
 
-fn print_answer(w: Written) {
+fn print_answer(rt: &impl Print, w: Written) -> io::Result<()> {
     match w {
-        Written::Appended(end) => {
-            io::write_all(1, b" used ");
-            io::print_decimal(1, end as u64);
-        }
+        Written::Appended(end) => print!(rt; " used {end}"),
         Written::Rejected(f) => {
-            io::write_all(1, b" refused ");
-            io::print_decimal(1, f.number as u64);
-            io::write_all(1, b" ");
-            io::print_decimal(1, f.place as u64);
+            let number = f.number;
+            let place = f.place;
+            print!(rt; " refused {number} {place}")
         }
     }
 }
 
-fn print_bytes(b: &[u8]) {
-    io::write_all(1, b" ");
-    let mut i = 0;
-    while i < b.len() {
-        io::print_hex(1, decoding::byte_at(b, i) as u64, 2);
-        i += 1;
+fn print_bytes(rt: &impl Print, bytes: &[u8]) -> io::Result<()> {
+    print!(rt; " ")?;
+    for byte in bytes {
+        print!(rt; "{byte:02x}")?;
     }
-    io::write_all(1, b"\n");
+    println!(rt; "")
 }
 
 // The call, and what it came to.
-fn make(buffer: &mut [u8], used: usize, kind: u32, xs: [u32; 17]) {
+fn make(
+    rt: &impl Print,
+    buffer: &mut [u8],
+    used: usize,
+    kind: u32,
+    xs: [u32; 17],
+) -> io::Result<()> {
     let w = writer::append(buffer, used, kind, xs);
-    print_answer(w);
-    print_bytes(buffer);
+    print_answer(rt, w)?;
+    print_bytes(rt, buffer)
 }
 
-fn one(k: usize) {
-    let mut path = io::buffer();
-    let length = os::arg(k, &mut path);
-    let fd = os::open_read(&path[..length]);
-    if fd < 0 {
-        io::write_all(1, b"unread\n");
-        return;
+fn replay_call(rt: &impl Print, name: &str, file: &mut [u8]) -> io::Result<()> {
+    if file.len() < 76 {
+        return println!(rt; "short");
     }
+    let used = number(file, 0);
+    let kind = number(file, 1);
+    let xs = numbers(file);
+    print!(rt; "{name}")?;
+    make(rt, &mut file[76..], used as usize, kind, xs)
+}
+
+fn replay_file(rt: &HostRuntime, name: &str) -> io::Result<()> {
+    let Ok(mut input) = File::open(rt, name) else {
+        return println!(rt; "unread");
+    };
     let mut file = [0u8; 8192];
-    let n = io::read_full(fd, &mut file);
-    libc::close(fd);
-    if n < 76 {
-        io::write_all(1, b"short\n");
-        return;
-    }
-    let used = number(&file, 0);
-    let kind = number(&file, 1);
-    let xs = numbers(&file);
-    io::write_all(1, &path[..length]);
-    make(&mut file[76..n], used as usize, kind, xs);
+    let (n, _) = input::read_full(&mut input, &mut file);
+    replay_call(rt, name, &mut file[..n])
 }
 
-fn main() {
-    let n = os::arg_count();
-    let mut k = 1;
-    while k < n {
-        one(k);
-        k += 1;
+fn main(rt: HostRuntime) -> io::Result<()> {
+    for name in env::args(&rt)?.skip(1) {
+        replay_file(&rt, name.as_str())?;
     }
+    Ok(())
 }

@@ -1,11 +1,7 @@
 -- Lines put behind each other in a buffer. Assumes nothing.
-use mathlib.Core.Path.{◌≡◌, refl, sym, ap, ◌∙◌}
-use mathlib.Core.List.{List, ◌++◌, append_assoc}
-use Prim.Native.Nat.{ℕ, ◌+◌, ◌-◌, ◌≤◌}
-use native.Mathlib.Omega.{arith}
-use lib.ListN.{length, take, drop, length-append, length-take}
-use lib.Seq.{sets-eq, length-sets, take-append-add, take-append-le, take_at, length-take-le}
-use lib.Seq.{take_all}
+use Rattle.std.proofs.Common.{◌≡◌, refl, sym, ap, ◌∙◌, List, ◌++◌, append_assoc, ℕ, ◌+◌, ◌-◌, ◌≤◌, arith, length}
+use Rattle.std.proofs.Common.{take, drop, length-append, length-take, take_at, length-take-le, take_all}
+use lib.Seq.{sets-eq, length-sets, take-append-add, take-append-le}
 use Rattle.filling.specs.Building.{zeros}
 use Rattle.report.specs.Text.{framed}
 use Rattle.report.specs.Laying.{laid}

@@ -1,12 +1,9 @@
 -- What the analysis leaves in the area says the lists: no pair of a list is zero, so a section's entries before the
 -- first zero are its list, and the record where a node begins has the node's kind. Assumes nothing.
-use mathlib.Core.Path.{◌≡◌, refl, sym, ap, ◌∙◌}
-use mathlib.Core.List.{List, [], ◌∷◌, ◌++◌, Memᴰ}
-use Prim.Native.Nat.{ℕ, zero, suc, ◌+◌, ◌-◌, ◌≤◌, ◌<◌}
-use native.Mathlib.Omega.{arith}
-use lib.ListN.{length, take, drop, get_or, take-append-drop}
+use Rattle.std.proofs.Common.{◌≡◌, refl, sym, ap, ◌∙◌, List, [], ◌∷◌, ◌++◌, ℕ, zero, suc, ◌+◌, ◌-◌, ◌≤◌, ◌<◌}
+use Rattle.std.proofs.Common.{arith, length, take, drop, get_or, take-append-drop, ne_eqb}
+use mathlib.Core.List.{Memᴰ}
 use lib.Seq.{take-append_seam}
-use borrow.Author.Tests.{ne_eqb}
 use Rattle.network.specs.Model.{Node, leaf_node, join_node, hide_node, rename_node, node_network, WellFormed}
 use Rattle.network.specs.Lists.{first_of, second_of, list_of}
 use Rattle.network.specs.Verdict.{Verdict, pass, inconclusive, refused, most_pairs, verdict}

@@ -1,11 +1,9 @@
 -- A node's text gathered in a buffer: its line, then a line for each pair. Assumes nothing.
-use mathlib.Core.Path.{◌≡◌, refl, sym, ap, ◌∙◌, subst}
-use mathlib.Core.List.{List, [], ◌∷◌, ◌++◌, flat_map, append_assoc, append-nil}
-use Prim.Native.Nat.{ℕ, ◌+◌, ◌-◌, ◌*◌, ◌≤◌, ◌<◌}
-use native.Mathlib.Numerals.{add-one}
-use native.Mathlib.Omega.{arith}
-use lib.ListN.{length, take, get_or, length-append, length-replicate}
-use lib.Seq.{take-suc}
+use Rattle.std.proofs.Common.{◌≡◌, refl, sym, ap, ◌∙◌, subst, List, [], ◌∷◌, ◌++◌, append_assoc, append-nil, ℕ}
+use Rattle.std.proofs.Common.{◌+◌, ◌-◌, ◌*◌, ◌≤◌, ◌<◌, add-one, arith, length, take, get_or, length-append}
+use Rattle.std.proofs.Common.{take-suc}
+use mathlib.Core.List.{flat_map}
+use lib.ListN.{length-replicate}
 use Rattle.filling.specs.Building.{zeros}
 use Rattle.report.specs.Text.{node_line, pair_line, pair_count, framed, line, hex}
 use Rattle.report.proofs.Counting.{count_within}

@@ -3,3 +3,5 @@ pub mod Gathering
 pub mod FromArea
 pub mod Walking
 pub mod Promise
+pub mod Printing
+pub mod Taking

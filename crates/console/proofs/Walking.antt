@@ -1,13 +1,6 @@
 -- The walk over the nodes of a readable file finds them all, in order, and stops behind the last. Assumes nothing.
-use mathlib.Core.Path.{◌≡◌, refl, sym, ap, ◌∙◌}
-use mathlib.Core.Bool.{true, false}
-use mathlib.Core.List.{List, [], ◌∷◌, ◌++◌, map}
-use Prim.Native.Nat.{ℕ, zero, suc, ◌+◌, ◌≤◌, ◌<◌}
-use native.Mathlib.Omega.{arith}
-use lib.Dec.{eqb}
-use lib.ListN.{length, drop, get_or}
-use lib.Seq.{drop-drop}
-use borrow.Author.Tests.{eq-eqb, ne_eqb}
+use Rattle.std.proofs.Common.{◌≡◌, refl, sym, ap, ◌∙◌, true, false, List, [], ◌∷◌, ◌++◌, map, ℕ, zero, suc, ◌+◌}
+use Rattle.std.proofs.Common.{◌<◌, arith, eqb, length, drop, get_or, drop-drop, eq-eqb, ne_eqb}
 use Rattle.network.specs.Model.{Node, leaf_node, join_node, hide_node, rename_node}
 use Rattle.records.specs.declared.Record.{Record}
 use Rattle.records.specs.Kinds.{end_kind, size_of, is_node}
@@ -72,7 +65,7 @@ node_no_end (rename_node i f) = refl
 walk_is : (area : List ℕ) (xs : List Node) (f fuel : ℕ) (b : List ℕ) (k x : ℕ)
     → records_from f b ≡ map record_of_node xs ++ (end_record x ∷ []) → length xs < fuel
     → walked fuel area b k ≡ each_node area xs k
-unfolding walked each_node map
+unfolding walked each_node
 walk_is area xs f zero b k x q h = absurd (omega arith)
 walk_is area [] f (suc fuel) b k x q h =
     let n = next f b (end_record x) [] q in
@@ -119,16 +112,16 @@ in_turn_lem area f (x ∷ xs) k h =
     ap (λ (t : List ℕ). t ++ each_node area xs (suc k)) (sym first) ∙ ap (λ (t : List ℕ). f k ++ t) later
 
 -- the walk from the first node of a file whose records are some that are no nodes, nodes, and an end
-from_first : (s area : List ℕ) (xs : List Node) (front : List Record) (x : ℕ) → NoNode front → 0 < length xs
-    → length xs ≤ 32 → records_of s ≡ front ++ (map record_of_node xs ++ (end_record x ∷ []))
-    → walked 33 area (drop (node_place s 0) s) 0 ≡ each_node area xs 0
-unfolding node_place records_of map
-from_first s area [] front x none some few q = absurd (omega arith)
-from_first s area (n ∷ xs) front x none some few q =
+from_first : (s area : List ℕ) (fuel : ℕ) (xs : List Node) (front : List Record) (x : ℕ) → NoNode front
+    → 0 < length xs → length xs < fuel → records_of s ≡ front ++ (map record_of_node xs ++ (end_record x ∷ []))
+    → walked fuel area (drop (node_place s 0) s) 0 ≡ each_node area xs 0
+unfolding node_place records_of
+from_first s area fuel [] front x none some few q = absurd (omega arith)
+from_first s area fuel (n ∷ xs) front x none some few q =
     let tail = map record_of_node xs ++ (end_record x ∷ []) in
     let w = first_node front (record_of_node n) tail (length s) s none (node_is_node n) q in
-    ap (λ (rs : List Record). walked 33 area (drop (place_in is_node rs 0) s) 0) q
-    ∙ walk_is area (n ∷ xs) w.0 33 (drop (place_in is_node (front ++ (record_of_node n ∷ tail)) 0) s) 0 x w.1
+    ap (λ (rs : List Record). walked fuel area (drop (place_in is_node rs 0) s) 0) q
+    ∙ walk_is area (n ∷ xs) w.0 fuel (drop (place_in is_node (front ++ (record_of_node n ∷ tail)) 0) s) 0 x w.1
     (omega arith)
 
 -- a node's text from the file and the area, by the node's kind
@@ -142,10 +135,10 @@ node_said s area i h =
 
 pub walk_finds_nodes : WalkFindsNodes
 unfolding WalkFindsNodes
-walk_finds_nodes s area y e =
+walk_finds_nodes s area fuel h y e =
     let w = nodes_stand s y e in
     let M = file_model s in
     let formed = model_formed s y e in
-    from_first s area M.nodes w.front w.count w.none formed.well_formed.some_node
-    formed.within_limits.nodes_limit.1 w.listed
+    from_first s area fuel M.nodes w.front w.count w.none formed.well_formed.some_node
+    (omega (arith, formed.within_limits.nodes_limit.1)) w.listed
     ∙ in_turn_lem area (section_text s area) M.nodes 0 (node_said s area)

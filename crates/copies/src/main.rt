@@ -1,8 +1,12 @@
 // Each argument names a model file: its records are appended one after another to a buffer of bytes aa, and a line says
 // whether that rebuilt the file and left the bytes behind it as they were.
+#![tactic(auto)]
+
 ghost use Rattle.std.specs.Prelude.{◌≤◌, length};
 
 use reader::Reading;
+use std::fs::File;
+use std::{env, io};
 use writer::Written;
 
 // The file's records from a place on into the buffer: the used length at the end, or where it stopped.
@@ -29,61 +33,46 @@ fn rebuild(file: &[u8], buffer: &mut [u8]) -> usize
 
 // Whether every byte of b is aa.
 fn is_untouched(b: &[u8]) -> bool {
-    let mut i = 0;
-    while i < b.len() {
-        if b[i] != 170 {
+    for x in b {
+        if *x != 170 {
             return false;
         }
-        i += 1;
     }
     true
 }
 
 // The line for a readable file.
-fn compare(file: &[u8])
+fn compare(rt: &impl Print, file: &[u8]) -> io::Result<()>
     requires { length file.now ≤ 8192 }
 {
     let mut buffer = [170u8; 4160];
     let used = rebuild(file, &mut buffer);
     if used > 4160 {
-        io::write_all(1, b" differs\n");
-        return;
+        return println!(rt; " differs");
     }
-    if check::same(&buffer[..used], file) & is_untouched(&buffer[used..]) {
-        io::write_all(1, b" same ");
-        io::print_decimal(1, used as u64);
-        io::write_all(1, b"\n");
-        return;
+    if &buffer[..used] == file && is_untouched(&buffer[used..]) {
+        return println!(rt; " same {used}");
     }
-    io::write_all(1, b" differs\n");
+    println!(rt; " differs")
 }
 
-fn one(k: usize) {
-    let mut path = io::buffer();
-    let length = os::arg(k, &mut path);
-    let fd = os::open_read(&path[..length]);
-    if fd < 0 {
-        io::write_all(1, b"unread\n");
-        return;
-    }
+fn compare_file(rt: &HostRuntime, name: &str) -> io::Result<()> {
+    let Ok(mut input) = File::open(rt, name) else {
+        return println!(rt; "unread");
+    };
     let mut file = [0u8; 4097];
-    let n = io::read_full(fd, &mut file);
-    libc::close(fd);
-    io::write_all(1, &path[..length]);
+    let (n, _) = input::read_full(&mut input, &mut file);
+    print!(rt; "{name}")?;
     let v = reader::read(&file[..n]);
     match v {
-        Reading::Readable(_) => compare(&file[..n]),
-        Reading::Unreadable(_) => {
-            io::write_all(1, b" unreadable\n");
-        }
+        Reading::Readable(_) => compare(rt, &file[..n]),
+        Reading::Unreadable(_) => println!(rt; " unreadable"),
     }
 }
 
-fn main() {
-    let n = os::arg_count();
-    let mut k = 1;
-    while k < n {
-        one(k);
-        k += 1;
+fn main(rt: HostRuntime) -> io::Result<()> {
+    for name in env::args(&rt)?.skip(1) {
+        compare_file(&rt, name.as_str())?;
     }
+    Ok(())
 }

@@ -1,11 +1,12 @@
-// Reads one model from standard input and prints the result of its analysis. If a write fails it stops quietly.
+// Reads one model from standard input and prints the result of its analysis. If a write fails it stops quietly, with
+// status 1; a read that fails ends the input.
+#![tactic(auto)]
 
-// One byte more than a file may have is room enough: a longer input fills it too. An input that can't be read counts
-// as one that ends there, which is then a cut file.
-fn main() {
-    let mut input = [0u8; 4097];
-    let n = io::read_full(0, &mut input);
-    let mut area = [0u32; 8192];
-    let a = analysis::analyse(&input[..n], &mut area);
-    console::print_result(&input[..n], a, &area);
+use std::process::ExitCode;
+
+fn main(rt: HostRuntime) -> ExitCode {
+    match console::read_and_print(&mut rt.stdin(), &mut rt.stdout()).written {
+        Ok(()) => ExitCode::SUCCESS,
+        Err(_) => ExitCode::FAILURE,
+    }
 }

@@ -1,9 +1,5 @@
 -- A first line without its line feed is within the line. Assumes nothing.
-use mathlib.Core.Path.{◌≡◌}
-use mathlib.Core.List.{List}
-use Prim.Native.Nat.{ℕ, ◌-◌, ◌≤◌}
-use native.Mathlib.Omega.{arith}
-use lib.ListN.{length}
+use Rattle.std.proofs.Common.{◌≡◌, List, ℕ, ◌-◌, ◌≤◌, arith, length}
 use Rattle.network.specs.Verdict.{Verdict, pass, inconclusive, refused}
 use Rattle.report.specs.Text.{first_line, line, framed}
 use Rattle.console.proofs.Adding.{text_within}

@@ -1,17 +1,20 @@
 // Each argument names a file. Its analysis in an area with room to spare, filled with aaaaaaaa: the printed result, and
 // how many entries are zero and how many untouched; then, if the file is readable, in an area of just the needed size,
 // whose sections must be the same, and in one that is an entry short: the first line and those two numbers.
+#![tactic(auto)]
+
 ghost use Rattle.std.specs.Prelude.{◌≤◌};
 
 use reader::Reading;
+use std::fs::File;
+use std::{env, io};
 use verdict::Answer;
 
 // The first line of an answer, without its line feed.
-fn print_answer(a: Answer) {
+fn print_answer(rt: &impl Print, a: Answer) -> io::Result<()> {
     let line = report::first_line(a);
-    let bytes = line.bytes;
     let end = line.length - 1;
-    io::write_all(1, &bytes[..end]);
+    rt.write_all(&line.bytes[..end])
 }
 
 // 1 for two equal entries, otherwise 0.
@@ -51,51 +54,50 @@ fn is_same(a: &[u32], b: &[u32]) -> bool {
 }
 
 // How many entries of the area are zero, and how many still aaaaaaaa.
-fn print_counts(area: &[u32]) {
-    io::write_all(1, b" zero ");
-    io::print_decimal(1, count_of(area, 0) as u64);
-    io::write_all(1, b" untouched ");
-    io::print_decimal(1, count_of(area, 2863311530) as u64);
-    io::write_all(1, b"\n");
+fn print_counts(rt: &impl Print, area: &[u32]) -> io::Result<()> {
+    let zero = count_of(area, 0);
+    let untouched = count_of(area, 2863311530);
+    println!(rt; " zero {zero} untouched {untouched}")
 }
 
 // With room to spare: the printed result, then the counts.
-fn replay_spare(bytes: &[u8], area: &mut [u32]) {
+fn replay_spare(rt: &impl Print, bytes: &[u8], area: &mut [u32]) -> io::Result<()> {
     let a = analysis::analyse(bytes, area);
-    console::print_result(bytes, a, area);
-    io::write_all(1, b"spare");
-    print_counts(area);
+    console::print_result(&mut io::writer(rt), bytes, a, area)?;
+    print!(rt; "spare")?;
+    print_counts(rt, area)
 }
 
 // With just so much room: what it is called, the answer and the counts.
-fn replay_room(name: &[u8], bytes: &[u8], area: &mut [u32]) {
-    io::write_all(1, name);
-    print_answer(analysis::analyse(bytes, area));
-    print_counts(area);
+fn replay_room(rt: &impl Print, name: &str, bytes: &[u8], area: &mut [u32]) -> io::Result<()> {
+    print!(rt; "{name} ")?;
+    print_answer(rt, analysis::analyse(bytes, area))?;
+    print_counts(rt, area)
 }
 
 // With just the room that the file needs: whether its sections become the wanted ones.
-fn replay_exact(bytes: &[u8], wanted: &[u32], area: &mut [u32]) {
-    replay_room(b"exact ", bytes, area);
+fn replay_exact(rt: &impl Print, bytes: &[u8], wanted: &[u32], area: &mut [u32]) -> io::Result<()> {
+    replay_room(rt, "exact", bytes, area)?;
     if !is_same(area, wanted) {
-        io::write_all(1, b"differs\n");
+        println!(rt; "differs")?;
     }
+    Ok(())
 }
 
 // The analysis of a file whose sections have so many entries.
-fn replay_bytes(bytes: &[u8], needed: usize) {
+fn replay_bytes(rt: &impl Print, bytes: &[u8], needed: usize) -> io::Result<()> {
     let mut spare = [2863311530u32; 8448];
-    replay_spare(bytes, &mut spare);
+    replay_spare(rt, bytes, &mut spare)?;
     if needed == 0 {
-        return;
+        return Ok(());
     }
     if needed > 8192 {
-        return;
+        return Ok(());
     }
     let mut exact = [2863311530u32; 8192];
-    replay_exact(bytes, &spare[..needed], &mut exact[..needed]);
+    replay_exact(rt, bytes, &spare[..needed], &mut exact[..needed])?;
     let mut short = [2863311530u32; 8192];
-    replay_room(b"short ", bytes, &mut short[..needed - 1]);
+    replay_room(rt, "short", bytes, &mut short[..needed - 1])
 }
 
 // How many entries the sections of a file's nodes have; none if it is refused.
@@ -107,33 +109,21 @@ fn needed_for(bytes: &[u8]) -> usize {
     }
 }
 
-// Argument k. One byte more than a file may have is room enough: a longer file fills it too.
-fn replay_one(k: usize) {
-    let mut path = io::buffer();
-    let length = os::arg(k, &mut path);
-    if os::errno() != 0 {
-        return;
-    }
-    io::write_all(1, b"file ");
-    io::write_all(1, &path[..length]);
-    io::write_all(1, b"\n");
-    let fd = os::open_read(&path[..length]);
-    if fd < 0 {
-        io::write_all(1, b"unread\n");
-        return;
-    }
+// One byte more than a file may have is room enough: a longer file fills it too.
+fn replay_file(rt: &HostRuntime, name: &str) -> io::Result<()> {
+    println!(rt; "file {name}")?;
+    let Ok(mut file) = File::open(rt, name) else {
+        return println!(rt; "unread");
+    };
     let mut buffer = [0u8; 4097];
-    let n = io::read_full(fd, &mut buffer);
-    libc::close(fd);
+    let (n, _) = input::read_full(&mut file, &mut buffer);
     let needed = needed_for(&buffer[..n]);
-    replay_bytes(&buffer[..n], needed);
+    replay_bytes(rt, &buffer[..n], needed)
 }
 
-fn main() {
-    let n = os::arg_count();
-    let mut k = 1;
-    while k < n {
-        replay_one(k);
-        k += 1;
+fn main(rt: HostRuntime) -> io::Result<()> {
+    for name in env::args(&rt)?.skip(1) {
+        replay_file(&rt, name.as_str())?;
     }
+    Ok(())
 }
