@@ -15,7 +15,7 @@ use Rattle.console.specs.Promise.{lines_from, LinesArePrinted, WalkFindsNodes, w
 use Rattle.console.specs.Promise.{answer_text, AnswerIsWritten}
 use Rattle.console.specs.Walking.{walked, most_records}
 use Rattle.console.proofs.FromArea.{lines_are_printed}
-use Rattle.console.proofs.Walking.{walk_finds_nodes}
+use Rattle.console.proofs.Walking.{walk_suffices, walk_finds_nodes}
 
 -- only a readable file passes
 passed_read : (s area : List ℕ) (b : ℕ) → verdict_on s area ≡ pass b → Outcome s area → says s ≡ readable
@@ -38,11 +38,11 @@ not_long s e = at (ltb 4096 (length s)) refl
     at false q = q
 
 pub answer_written : AnswerIsWritten
-unfolding AnswerIsWritten answer_text written WalkFindsNodes
+unfolding AnswerIsWritten answer_text written
 answer_written s (pass b) area y e =
     ap (λ (t : List ℕ). first_line (pass b) ++ t)
     (ap (λ (c : Bool). cond c [] (walked most_records area (drop (node_place s 0) s) 0)) (not_long s e)
-    ∙ walk_finds_nodes s area most_records (omega arith) y e ∙ sym (walk_finds_nodes s area 33 (omega arith) y e))
+    ∙ walk_suffices s area most_records (omega arith) y e ∙ sym (walk_suffices s area 33 (omega arith) y e))
 answer_written s (inconclusive k) area y e = refl
 answer_written s (refused number place) area y e = refl
 
@@ -54,7 +54,7 @@ written_printed s area y long = by_verdict (verdict_on s area) refl ∙ lines_pr
         → written s v (area_after s area) ≡ lines_from s v (area_after s area)
     by_verdict (pass b) p =
         ap (λ (t : List ℕ). first_line (pass b) ++ t)
-        (walk_finds_nodes s (area_after s area) 33 (omega arith) y (passed_read s area b p (outcome s area)))
+        (walk_finds_nodes s (area_after s area) y (passed_read s area b p (outcome s area)))
     by_verdict (inconclusive k) p = refl
     by_verdict (refused number place) p = refl
 

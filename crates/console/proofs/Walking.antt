@@ -1,12 +1,13 @@
 -- The walk over the nodes of a readable file finds them all, in order, and stops behind the last. Assumes nothing.
 use Rattle.std.proofs.Common.{◌≡◌, refl, sym, ap, ◌∙◌, true, false, List, [], ◌∷◌, ◌++◌, map, ℕ, zero, suc, ◌+◌}
-use Rattle.std.proofs.Common.{◌<◌, arith, eqb, length, drop, get_or, drop-drop, eq-eqb, ne_eqb}
+use Rattle.std.proofs.Common.{◌<◌, ◌≤◌, arith, eqb, length, drop, get_or, drop-drop, eq-eqb, ne_eqb}
 use Rattle.network.specs.Model.{Node, leaf_node, join_node, hide_node, rename_node}
 use Rattle.records.specs.declared.Record.{Record}
 use Rattle.records.specs.Kinds.{end_kind, size_of, is_node}
 use Rattle.records.specs.Records.{end_record}
-use Rattle.decoding.specs.Bytes.{byte, first_record}
+use Rattle.decoding.specs.Bytes.{AreBytes, byte, first_record}
 use Rattle.decoding.proofs.Bytes.{first_kind}
+use Rattle.reader.specs.Scan.{readable, says}
 use Rattle.reader.specs.File.{records_from, records_of, file_model}
 use Rattle.places.specs.Finding.{place_in, node_place}
 use Rattle.reader.specs.Encoding.{record_of_node}
@@ -133,12 +134,17 @@ node_said s area i h =
     let z : 0 + i ≡ i = omega arith in
     rw z (ap (λ (kind : ℕ). text_of i kind (section area i)) (kind_found s i h))
 
-pub walk_finds_nodes : WalkFindsNodes
-unfolding WalkFindsNodes
-walk_finds_nodes s area fuel h y e =
+-- any 33 records or more suffice
+pub walk_suffices : (s area : List ℕ) (fuel : ℕ) → 33 ≤ fuel → AreBytes s → says s ≡ readable
+    → walked fuel area (drop (node_place s 0) s) 0 ≡ in_turn (section_text s area) 0 (length (file_model s).nodes)
+walk_suffices s area fuel h y e =
     let w = nodes_stand s y e in
     let M = file_model s in
     let formed = model_formed s y e in
     from_first s area fuel M.nodes w.front w.count w.none formed.well_formed.some_node
     (omega (arith, formed.within_limits.nodes_limit.1)) w.listed
     ∙ in_turn_lem area (section_text s area) M.nodes 0 (node_said s area)
+
+pub walk_finds_nodes : WalkFindsNodes
+unfolding WalkFindsNodes
+walk_finds_nodes s area y e = walk_suffices s area 33 (omega arith) y e

@@ -39,8 +39,8 @@ LinesArePrinted =
 -- the walk from the first node of a readable file s gives every node's text in turn; 32 nodes and an end are the most
 unfoldable pub WalkFindsNodes : Type 0
 WalkFindsNodes =
-    (s area : List ℕ) (fuel : ℕ) → 33 ≤ fuel → AreBytes s → says s ≡ readable
-    → walked fuel area (drop (node_place s 0) s) 0 ≡ in_turn (section_text s area) 0 (length (file_model s).nodes)
+    (s area : List ℕ) → AreBytes s → says s ≡ readable
+    → walked 33 area (drop (node_place s 0) s) 0 ≡ in_turn (section_text s area) 0 (length (file_model s).nodes)
 
 -- the text that is written for the file s, a verdict and an area: the first line and, after a pass, the walk's texts
 unfoldable pub written : List ℕ → Verdict → List ℕ → List ℕ
