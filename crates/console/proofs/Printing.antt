@@ -2,7 +2,9 @@
 -- Assumes nothing.
 use Rattle.std.proofs.Common.{◌≡◌, refl, sym, ap, ◌∙◌, subst, List, [], ◌∷◌, ◌++◌, append_assoc, append-nil, ℕ}
 use Rattle.std.proofs.Common.{zero, suc, ◌+◌, ◌-◌, ◌*◌, ◌≤◌, ◌<◌, arith, length, take, drop, get_or, length-drop}
-use Rattle.std.proofs.Common.{drop-drop, eq-eqb, ne_eqb, lt-ltb, le-ltb, Result, Ok, Err, OnOk}
+use Rattle.std.proofs.Common.{drop-drop, eq-eqb, ne_eqb, lt-ltb, le-ltb, Result}
+use Rattle.std.specs.Prelude.{⊤}
+use Rattle.std.specs.Result.{IsErr}
 use Rattle.std.specs.declared.option.Option.{Option}
 use Rattle.std.specs.Io.KnownBytes.{Appends}
 use Rattle.std.proofs.KnownBytes.{Appends-nil, Appends-trans}
@@ -17,7 +19,8 @@ use Rattle.verdict.specs.Answers.{verdict_of}
 use Rattle.report.specs.Text.{first_line}
 use Rattle.decoding.specs.Bytes.{byte}
 use Rattle.analysis.specs.Promise.{section}
-use Rattle.console.specs.Output.{text_of, Holds}
+use Rattle.console.specs.Output.{text_of, Holds, IsWritten}
+use Rattle.console.proofs.Writing.{begun_written, written_behind, written_not}
 use Rattle.console.specs.Walking.{walked, most_records}
 use Rattle.console.specs.Promise.{answer_text}
 
@@ -53,41 +56,85 @@ byte_there bytes zero = refl
 byte_there [] (suc place) = refl
 byte_there (x ∷ bytes) (suc place) = byte_there bytes place
 
-pub print_on : (before now after : Option (List ℕ)) (area bytes : List ℕ) (first place k kind size end : ℕ) (buffer : List ℕ)
-    → Printed before now area bytes first place k → k ≤ place → place < length bytes → length bytes ≤ 4096
-    → kind ≡ get_or bytes place 0 → (kind ≡ end_kind → ⊥) → Holds buffer end (text_of k kind (section area k))
-    → Appends now after (take end buffer) → size ≡ size_of kind
-    → Printed before after area bytes first (place + size) (k + 1)
-print_on before now after area bytes first place k kind size end buffer p near inside short q other h w z =
+-- what the walk gives behind node k
+behind_node : (area bytes : List ℕ) (place k kind : ℕ) → List ℕ
+behind_node area bytes place k kind = walked (most_records - (k + 1)) area (drop (place + size_of kind) bytes) (k + 1)
+
+walk_on : (area bytes : List ℕ) (place k kind : ℕ) → k ≤ place → place < length bytes → length bytes ≤ 4096
+    → kind ≡ get_or bytes place 0 → (kind ≡ end_kind → ⊥)
+    → walked (most_records - k) area (drop place bytes) k ≡ text_of k kind (section area k) ++ behind_node area bytes place k kind
+unfolding behind_node
+walk_on area bytes place k kind near inside short q other =
     let b = drop place bytes in
     let there : byte b 0 ≡ kind = byte_there bytes place ∙ sym q in
     let some : 0 < length b = omega (arith, length-drop place bytes) in
     let fuel : most_records - k ≡ suc (most_records - (k + 1)) = omega arith in
     let next : suc k ≡ k + 1 = omega arith in
-    let on : drop (size_of kind) b ≡ drop (place + size) bytes =
-    ap (λ (n : ℕ). drop n b) (sym z) ∙ drop-drop size place bytes in
-    let step : walked (most_records - k) area b k
-    ≡ text_of k kind (section area k) ++ walked (most_records - (k + 1)) area (drop (place + size) bytes) (k + 1) =
+    let on : drop (size_of kind) b ≡ drop (place + size_of kind) bytes = drop-drop (size_of kind) place bytes in
     ap (λ (n : ℕ). walked n area b k) fuel
     ∙ walk_step (most_records - (k + 1)) area b k some (λ e. other (sym there ∙ e))
     ∙ ap (λ (n : ℕ). text_of k n (section area k) ++ walked (most_records - (k + 1)) area (drop (size_of n) b) (suc k)) there
     ∙ ap (λ (c : List ℕ). text_of k kind (section area k) ++ walked (most_records - (k + 1)) area c (suc k)) on
-    ∙ ap (λ (n : ℕ). text_of k kind (section area k) ++ walked (most_records - (k + 1)) area (drop (place + size) bytes) n) next in
+    ∙ ap (λ (n : ℕ). text_of k kind (section area k)
+    ++ walked (most_records - (k + 1)) area (drop (place + size_of kind) bytes) n) next
+
+pub print_on : (before now after : Option (List ℕ)) (area bytes : List ℕ) (first place k kind size end : ℕ) (buffer : List ℕ)
+    → Printed before now area bytes first place k → k ≤ place → place < length bytes → length bytes ≤ 4096
+    → kind ≡ get_or bytes place 0 → (kind ≡ end_kind → ⊥) → Holds buffer end (text_of k kind (section area k))
+    → Appends now after (take end buffer) → size ≡ size_of kind
+    → Printed before after area bytes first (place + size) (k + 1)
+unfolding behind_node
+print_on before now after area bytes first place k kind size end buffer p near inside short q other h w z =
+    let node = text_of k kind (section area k) in
+    let size_there : behind_node area bytes place k kind ≡ walked (most_records - (k + 1)) area (drop (place + size) bytes) (k + 1) =
+    ap (λ (n : ℕ). walked (most_records - (k + 1)) area (drop (place + n) bytes) (k + 1)) (sym z) in
     record {
-      text = p.text ++ text_of k kind (section area k);
-      written = Appends-trans before now after p.text (text_of k kind (section area k)) p.written
-          (subst (Appends now after) h.text_is w);
-      rest = append_assoc p.text (text_of k kind (section area k)) _
-          ∙ ap (λ (t : List ℕ). p.text ++ t) (sym step) ∙ p.rest;
+      text = p.text ++ node;
+      written = Appends-trans before now after p.text node p.written (subst (Appends now after) h.text_is w);
+      rest = append_assoc p.text node _
+          ∙ ap (λ (t : List ℕ). p.text ++ (node ++ t)) (sym size_there)
+          ∙ ap (λ (t : List ℕ). p.text ++ t) (sym (walk_on area bytes place k kind near inside short q other)) ∙ p.rest;
     }
+
+-- the walk up to place k has the text so far as its beginning
+so_far : (before now : Option (List ℕ)) (area bytes : List ℕ) (first start place k : ℕ)
+    → (p : Printed before now area bytes first place k) → first ≡ start
+    → p.text ++ walked (most_records - k) area (drop place bytes) k ≡ walked most_records area (drop start bytes) 0
+so_far before now area bytes first start place k p there =
+    p.rest ∙ ap (λ (n : ℕ). walked most_records area (drop n bytes) 0) there
+
+-- node k's text could not be written whole
+pub print_failed : {E D : Type 0} (r : Result ⊤ E) (d : Result ⊤ D) (before now after : Option (List ℕ)) (area bytes : List ℕ)
+    (first start place k kind end : ℕ) (buffer : List ℕ)
+    → Printed before now area bytes first place k → first ≡ start → k ≤ place → place < length bytes → length bytes ≤ 4096
+    → kind ≡ get_or bytes place 0 → (kind ≡ end_kind → ⊥) → Holds buffer end (text_of k kind (section area k))
+    → IsErr r → IsErr d → IsWritten r now after (take end buffer)
+    → IsWritten d before after (walked most_records area (drop start bytes) 0)
+print_failed r d before now after area bytes first start place k kind end buffer p where_ near inside short q other h e f w =
+    let b = drop place bytes in
+    let node = text_of k kind (section area k) in
+    let step : walked (most_records - k) area b k ≡ node ++ behind_node area bytes place k kind =
+    walk_on area bytes place k kind near inside short q other in
+    subst (IsWritten d before after)
+    (ap (λ (t : List ℕ). p.text ++ t) (sym step) ∙ so_far before now area bytes first start place k p where_)
+    (written_behind d before now after p.text (node ++ behind_node area bytes place k kind) p.written
+    (written_not r d now after node (behind_node area bytes place k kind) e f (subst (IsWritten r now after) h.text_is w)))
+
+-- the area has no section for node k
+pub print_short : {D : Type 0} (d : Result ⊤ D) (before now : Option (List ℕ)) (area bytes : List ℕ) (first start place k : ℕ)
+    → Printed before now area bytes first place k → first ≡ start → IsErr d
+    → IsWritten d before now (walked most_records area (drop start bytes) 0)
+print_short d before now area bytes first start place k p there f =
+    subst (IsWritten d before now) (so_far before now area bytes first start place k p there)
+    (begun_written d before now p.text (walked (most_records - k) area (drop place bytes) k) f p.written)
 
 ended : (before now : Option (List ℕ)) (area bytes : List ℕ) (first start place k : ℕ)
     → Printed before now area bytes first place k → first ≡ start → walked (most_records - k) area (drop place bytes) k ≡ []
     → Appends before now (walked most_records area (drop start bytes) 0)
 ended before now area bytes first start place k p there none =
     subst (Appends before now)
-    (sym (append-nil p.text) ∙ ap (λ (t : List ℕ). p.text ++ t) (sym none) ∙ p.rest
-    ∙ ap (λ (n : ℕ). walked most_records area (drop n bytes) 0) there) p.written
+    (sym (append-nil p.text) ∙ ap (λ (t : List ℕ). p.text ++ t) (sym none)
+    ∙ so_far before now area bytes first start place k p there) p.written
 
 -- behind the last byte
 pub print_behind : (before now : Option (List ℕ)) (area bytes : List ℕ) (first start place k : ℕ)
@@ -114,9 +161,12 @@ section_there area at k q =
 
 -- ---- the first line, and what is behind it
 
-pub on_ok : {T E : Type 0} (r : Result T E) (P Q : Type 0) → (P → Q) → OnOk r P → OnOk r Q
-on_ok (Ok x) P Q f p = f p
-on_ok (Err e) P Q f p = p
+-- an answer's text begins with its first line
+pub answer_begins : (s : List ℕ) (v : Verdict) (area : List ℕ) → (rest : List ℕ) × (first_line v ++ rest ≡ answer_text s v area)
+unfolding answer_text
+answer_begins s (pass b) area = (_, refl)
+answer_begins s (inconclusive k) area = ([], append-nil (first_line (inconclusive k)))
+answer_begins s (refused number place) area = ([], append-nil (first_line (refused number place)))
 
 pub answer_long : (s : List ℕ) (v : Verdict) (area : List ℕ) → 4096 < length s → first_line v ≡ answer_text s v area
 unfolding answer_text

@@ -1,6 +1,9 @@
--- What stands in the output's buffer. Assumes nothing.
-use Rattle.std.specs.Prelude.{◌≡◌, ℕ, ◌+◌, ◌≤◌, length, take}
+-- What stands in the output's buffer, and what an output holds of a text. Assumes nothing.
+use Rattle.std.specs.Prelude.{◌≡◌, ℕ, ◌+◌, ◌≤◌, Result, OnOk, OnErr, ⊤, length, take}
 use mathlib.Core.List.{List, ◌++◌, flat_map}
+use Rattle.std.specs.declared.option.Option.{Option}
+use Rattle.std.specs.Io.{StartsWith}
+use Rattle.std.specs.Io.KnownBytes.{Appends}
 use Rattle.report.specs.Text.{node_line, pair_line, pair_count}
 
 -- the text of node k of a kind whose section is xs: its line, and a line for each entry before the first zero
@@ -18,3 +21,9 @@ pub record Added (buffer : List ℕ) (at : ℕ) (t buffer' : List ℕ) (end : �
 pub record Holds (buffer : List ℕ) (end : ℕ) (t : List ℕ) : Type 0 where
   pub end_is : end ≡ length t
   pub text_is : take end buffer ≡ t
+
+-- how writing the text t went: all of it was added to what the output held or, where that failed, a beginning of it; of
+-- an output that says what it holds
+unfoldable pub IsWritten : {E : Type 0} → Result ⊤ E → (held held' : Option (List ℕ)) → List ℕ → Type 0
+IsWritten r held held' t =
+    OnOk r (Appends held held' t) × OnErr r ((begun : List ℕ) × StartsWith t begun × Appends held held' begun)

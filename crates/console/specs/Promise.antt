@@ -4,7 +4,7 @@
 use Rattle.std.specs.Prelude.{◌≡◌, ℕ, ◌<◌, ◌≤◌, Result, OnOk, ⊤, cond, ltb, [], length, take, drop}
 use mathlib.Core.List.{List, ◌++◌, flat_map}
 use Rattle.std.specs.declared.option.Option.{Option}
-use Rattle.std.specs.Io.KnownBytes.{Appends, Consumes, IsAtEnd}
+use Rattle.std.specs.Io.KnownBytes.{Consumes, IsAtEnd}
 use Rattle.network.specs.Verdict.{Verdict, pass, inconclusive, refused}
 use Rattle.decoding.specs.Bytes.{AreBytes}
 use Rattle.reader.specs.Scan.{readable, says}
@@ -14,6 +14,7 @@ use Rattle.analysis.specs.Analysis.{area_after}
 use Rattle.analysis.specs.Promise.{verdict_on, section}
 use Rattle.report.specs.Text.{first_line, node_line, pair_line, pair_count}
 use Rattle.report.specs.Printed.{in_turn, printed}
+use Rattle.console.specs.Output.{IsWritten}
 use Rattle.console.specs.Walking.{walked, most_records}
 
 -- the text of node k as the file s and an area give it: the line of its record's kind and of how many entries its
@@ -68,8 +69,8 @@ AnswerIsWritten =
     (s : List ℕ) (v : Verdict) (area : List ℕ) → AreBytes s → says s ≡ readable → answer_text s v area ≡ written s v area
 
 -- of what an input has left some bytes were taken, 4,097 at most, and fewer only if it is then at its end or a read
--- failed; and the printed result for them was added to what the output holds, where the two are known
-unfoldable pub PrintsWhatItTakes : {E : Type 0} → Result ⊤ E → (left left' held held' : Option (List ℕ)) → Type 0
-PrintsWhatItTakes read left left' held held' =
+-- failed; and the printed result for them was written, or a beginning of it where a write failed
+unfoldable pub PrintsWhatItTakes : {E : Type 0} → (read wrote : Result ⊤ E) → (left left' held held' : Option (List ℕ)) → Type 0
+PrintsWhatItTakes read wrote left left' held held' =
     (s : List ℕ) × (length s ≤ 4097) × OnOk read (length s < 4097 → IsAtEnd left') × Consumes left left' s
-    × Appends held held' (printed s)
+    × IsWritten wrote held held' (printed s)

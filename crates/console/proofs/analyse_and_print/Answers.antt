@@ -1,10 +1,10 @@
-use Rattle.std.proofs.Common.{arith, le_refl}
-use Rattle.console.proofs.Printing.{on_ok}
+use Rattle.std.proofs.Common.{arith, le_refl, subst}
+use Rattle.console.specs.Output.{IsWritten}
 use Rattle.console.proofs.Taking.{analysed_printed}
 use Rattle.console.proofs.analyse_and_print.Goals as goal
 
 pub returns : goal.returns
 returns g c =
-    on_ok c.print_result.result _ _
-    (analysed_printed _ _ c.args.bytes.now _ _ c.analyse-a.result (λ i. omega (arith, c.type_inv.bytes i)) (le_refl 8192) c.analyse-a.ensures.answer
+    subst (IsWritten c.print_result.result _ _)
+    (analysed_printed c.args.bytes.now _ _ c.analyse-a.result (λ i. omega (arith, c.type_inv.bytes i)) (le_refl 8192) c.analyse-a.ensures.answer
     c.analyse-a.ensures.area) c.print_result.ensures
