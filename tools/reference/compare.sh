@@ -36,25 +36,10 @@ build_reference() {
     reference=$root/target/reference/release/reference
 }
 
-# The replay program is for x86-64; on another processor the kit has an emulator.
 find_replay() { # PATH
     case $1 in /*) replay=$1 ;; *) replay=$PWD/$1 ;; esac
     if ! [ -f "$replay" ] || ! [ -x "$replay" ]; then
-        fail 66 "no program $replay: build it first"
-    fi
-    emulator=
-    [ "$(uname -m)" = x86_64 ] && return
-    command -v rt >/dev/null 2>&1 || fail 69 'rt is missing, so the program cannot be emulated'
-    tools=$(dirname "$(dirname "$(rt doc)")")/on/$(uname -m)/toolchain
-    emulator=$tools/bin/qemu-x86_64
-    [ -x "$emulator" ] || fail 69 "no emulator $emulator"
-}
-
-run_replay() { # FILE...
-    if [ -n "$emulator" ]; then
-        "$emulator" "$tools/lib/ld-linux-x86-64.so.2" --library-path "$tools/lib" "$replay" "$@"
-    else
-        "$replay" "$@"
+        fail 66 "no program $replay: 'rt run </dev/null' in crates/replay makes it"
     fi
 }
 
@@ -85,7 +70,7 @@ compare_batch() { # LIST: a file that names the files of the batch, one to a lin
     set +f
     unset IFS
     ended=0
-    run_replay "$@" >"$room/got" || ended=$?
+    "$replay" "$@" >"$room/got" || ended=$?
     "$reference" expect "$@" >"$room/want" || fail 1 'the reference failed'
     cmp -s "$room/want" "$room/got" || show_difference
     # A status of 126 or more: not run at all, or killed.

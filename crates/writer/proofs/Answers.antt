@@ -1,6 +1,6 @@
 -- The writer's answer and buffer, way by way.
 -- Assumes nothing.
-use Rattle.std.proofs.Common.{◌≡◌, refl, sym, ◌∙◌, Bool, true, false, cond, List, ◌++◌, ℕ, ◌+◌, ◌-◌, ◌≤◌, ◌<◌}
+use Rattle.std.proofs.Common.{◌≡◌, refl, sym, ap, ◌∙◌, Bool, true, false, cond, List, ◌++◌, ℕ, ◌+◌, ◌-◌, ◌≤◌, ◌<◌}
 use Rattle.std.proofs.Common.{arith, ltb, eqb, length, take, drop, eqb-true, ltb-false, ne_eqb, lt-ltb, le-ltb}
 use Rattle.records.specs.declared.Record.{Record}
 use Rattle.progress.specs.declared.Progress.{Progress}
@@ -19,7 +19,12 @@ module _ (size used : ℕ) (r : Record) (g : Progress) where
   pub tested_hit : (hit : ℕ) → hit ≡ first_hit g r (size_of r.kind) → (hit ≡ 0 → ⊥)
       → Rejected (refusal hit used) ≡ tested size used r g
   unfolding tested
-  tested_hit hit e n = simp (← e, ne_eqb hit 0 n)
+  tested_hit hit e n =
+      let first = first_hit g r (size_of r.kind) in
+      let is_hit : eqb first 0 ≡ false = ne_eqb first 0 (λ z. n (e ∙ z)) in
+      let fits = cond (ltb (size - used) (size_of r.kind)) (Rejected (refusal 13 0)) (Appended (used + size_of r.kind)) in
+      ap (λ (x : ℕ). Rejected (refusal x used)) e
+      ∙ sym (ap (λ (b : Bool). cond b fits (Rejected (refusal first used))) is_hit)
 
   pub tested_full : first_hit g r (size_of r.kind) ≡ 0 → size - used < size_of r.kind
       → Rejected (refusal 13 0) ≡ tested size used r g
