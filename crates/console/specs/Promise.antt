@@ -63,7 +63,7 @@ answer_text s (pass b) area =
 answer_text s (inconclusive k) area = first_line (inconclusive k)
 answer_text s (refused number place) area = first_line (refused number place)
 
--- for a readable file s it is the text above
+-- for a readable file s the two texts are the same
 unfoldable pub AnswerIsWritten : Type 0
 AnswerIsWritten =
     (s : List ℕ) (v : Verdict) (area : List ℕ) → AreBytes s → says s ≡ readable → answer_text s v area ≡ written s v area
