@@ -4,8 +4,9 @@
 
 ghost use Rattle.std.specs.Prelude.{◌<◌};
 
+use std::env::{Env, FillError};
 use std::fs::File;
-use std::{env, io};
+use std::{io, str};
 use writer::Written;
 
 // Number k of the file.
@@ -58,19 +59,22 @@ fn make(
     print_bytes(rt, buffer)
 }
 
-fn replay_call(rt: &impl Print, name: &str, file: &mut [u8]) -> io::Result<()> {
+fn replay_call(rt: &impl Print, name: &[u8], file: &mut [u8]) -> io::Result<()> {
     if file.len() < 76 {
         return println!(rt; "short");
     }
     let used = number(file, 0);
     let kind = number(file, 1);
     let xs = numbers(file);
-    print!(rt; "{name}")?;
+    rt.write_all(name)?;
     make(rt, &mut file[76..], used as usize, kind, xs)
 }
 
-fn replay_file(rt: &HostRuntime, name: &str) -> io::Result<()> {
-    let Ok(mut input) = File::open(rt, name) else {
+fn replay_file(rt: &HostRuntime, name: &[u8]) -> io::Result<()> {
+    let input = str::from_utf8(name)
+        .ok()
+        .and_then(|path| File::open(rt, path).ok());
+    let Some(mut input) = input else {
         return println!(rt; "unread");
     };
     let mut file = [0u8; 8192];
@@ -79,8 +83,13 @@ fn replay_file(rt: &HostRuntime, name: &str) -> io::Result<()> {
 }
 
 fn main(rt: HostRuntime) -> io::Result<()> {
-    for name in env::args(&rt)?.skip(1) {
-        replay_file(&rt, name.as_str())?;
+    let mut name = [0u8; 4096];
+    for k in 1..usize::MAX {
+        match rt.arg(k, &mut name) {
+            Ok(length) => replay_file(&rt, &name[..length])?,
+            Err(FillError::TooLong) => println!(rt; "unread")?,
+            Err(FillError::NotPresent) => break,
+        }
     }
     Ok(())
 }

@@ -5,8 +5,9 @@
 ghost use Rattle.std.specs.Prelude.{◌≤◌, length};
 
 use reader::Reading;
+use std::env::{Env, FillError};
 use std::fs::File;
-use std::{env, io};
+use std::{io, str};
 use writer::Written;
 
 // The file's records from a place on into the buffer: the used length at the end, or where it stopped.
@@ -56,13 +57,16 @@ fn compare(rt: &impl Print, file: &[u8]) -> io::Result<()>
     println!(rt; " differs")
 }
 
-fn compare_file(rt: &HostRuntime, name: &str) -> io::Result<()> {
-    let Ok(mut input) = File::open(rt, name) else {
+fn compare_file(rt: &HostRuntime, name: &[u8]) -> io::Result<()> {
+    let input = str::from_utf8(name)
+        .ok()
+        .and_then(|path| File::open(rt, path).ok());
+    let Some(mut input) = input else {
         return println!(rt; "unread");
     };
     let mut file = [0u8; 4097];
     let (n, _) = input::read_full(&mut input, &mut file);
-    print!(rt; "{name}")?;
+    rt.write_all(name)?;
     let v = reader::read(&file[..n]);
     match v {
         Reading::Readable(_) => compare(rt, &file[..n]),
@@ -71,8 +75,13 @@ fn compare_file(rt: &HostRuntime, name: &str) -> io::Result<()> {
 }
 
 fn main(rt: HostRuntime) -> io::Result<()> {
-    for name in env::args(&rt)?.skip(1) {
-        compare_file(&rt, name.as_str())?;
+    let mut name = [0u8; 4096];
+    for k in 1..usize::MAX {
+        match rt.arg(k, &mut name) {
+            Ok(length) => compare_file(&rt, &name[..length])?,
+            Err(FillError::TooLong) => println!(rt; "unread")?,
+            Err(FillError::NotPresent) => break,
+        }
     }
     Ok(())
 }

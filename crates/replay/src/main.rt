@@ -6,8 +6,9 @@
 ghost use Rattle.std.specs.Prelude.{◌≤◌};
 
 use reader::Reading;
+use std::env::{Env, FillError};
 use std::fs::File;
-use std::{env, io};
+use std::{io, str};
 use verdict::Answer;
 
 // The first line of an answer, without its line feed.
@@ -110,9 +111,14 @@ fn needed_for(bytes: &[u8]) -> usize {
 }
 
 // One byte more than a file may have is room enough: a longer file fills it too.
-fn replay_file(rt: &HostRuntime, name: &str) -> io::Result<()> {
-    println!(rt; "file {name}")?;
-    let Ok(mut file) = File::open(rt, name) else {
+fn replay_file(rt: &HostRuntime, name: &[u8]) -> io::Result<()> {
+    print!(rt; "file ")?;
+    rt.write_all(name)?;
+    println!(rt; "")?;
+    let file = str::from_utf8(name)
+        .ok()
+        .and_then(|path| File::open(rt, path).ok());
+    let Some(mut file) = file else {
         return println!(rt; "unread");
     };
     let mut buffer = [0u8; 4097];
@@ -122,8 +128,13 @@ fn replay_file(rt: &HostRuntime, name: &str) -> io::Result<()> {
 }
 
 fn main(rt: HostRuntime) -> io::Result<()> {
-    for name in env::args(&rt)?.skip(1) {
-        replay_file(&rt, name.as_str())?;
+    let mut name = [0u8; 4096];
+    for k in 1..usize::MAX {
+        match rt.arg(k, &mut name) {
+            Ok(length) => replay_file(&rt, &name[..length])?,
+            Err(FillError::TooLong) => continue,
+            Err(FillError::NotPresent) => break,
+        }
     }
     Ok(())
 }
