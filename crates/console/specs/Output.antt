@@ -22,8 +22,8 @@ pub record Holds (buffer : List ℕ) (end : ℕ) (t : List ℕ) : Type 0 where
   pub end_is : end ≡ length t
   pub text_is : take end buffer ≡ t
 
--- how writing the text t went: all of it was added to what the output held or, where that failed, a beginning of it; of
--- an output that says what it holds
+-- how writing the text t went: all of it was added to what the output held or, where the answer is an error, a beginning
+-- of it; of an output that says what it holds
 unfoldable pub IsWritten : {E : Type 0} → Result ⊤ E → (held held' : Option (List ℕ)) → List ℕ → Type 0
 IsWritten r held held' t =
     OnOk r (Appends held held' t) × OnErr r ((begun : List ℕ) × StartsWith t begun × Appends held held' begun)
