@@ -69,7 +69,8 @@ AnswerIsWritten =
     (s : List ℕ) (v : Verdict) (area : List ℕ) → AreBytes s → says s ≡ readable → answer_text s v area ≡ written s v area
 
 -- of what an input has left some bytes were taken, 4,097 at most, and fewer only if it is then at its end or a read
--- failed; and the printed result for them was written, or a beginning of it where that ended in an error
+-- failed; and the printed result for them was written, or a beginning of it where that ended in an error; of an input
+-- and an output that say what they have
 unfoldable pub PrintsWhatItTakes : {E : Type 0} → (read wrote : Result ⊤ E) → (left left' held held' : Option (List ℕ)) → Type 0
 PrintsWhatItTakes read wrote left left' held held' =
     (s : List ℕ) × (length s ≤ 4097) × OnOk read (length s < 4097 → IsAtEnd left') × Consumes left left' s

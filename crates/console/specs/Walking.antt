@@ -15,6 +15,6 @@ walked (suc fuel) area b k =
     (cond (eqb (byte b 0) end_kind) []
     (text_of k (byte b 0) (section area k) ++ walked fuel area (drop (size_of (byte b 0)) b) (suc k)))
 
--- more records than a file of 4,096 bytes has
+-- more records than a file of at most 4,096 bytes has
 abbrev pub most_records : ℕ
 most_records = 4097
