@@ -1,5 +1,3 @@
-pub mod Counted
-pub mod Clearing
 pub mod Ends
 pub mod Numbers
 pub mod Outcomes

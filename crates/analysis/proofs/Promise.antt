@@ -26,6 +26,7 @@ use Rattle.analysis.specs.Promise.{verdict_on, section, PassExactly, SectionsAre
 use Rattle.analysis.specs.Promise.{InconclusiveIsFirst, ElevenIsFirst, TwelveNever}
 use Rattle.verdict.proofs.Sections.{AllFit, fit_at, section_at}
 use Rattle.analysis.proofs.Outcomes.{Outcome, unread, roomless, judged, outcome, read_not}
+use Rattle.tests.specs.Reasons.{number_of}
 
 -- lists of which none is over fit their sections
 fit_all : (n : ℕ) (ts : List Network) → ((j : ℕ) → j < length ts → is_over n (get_or ts j nowhere) ≡ false) → AllFit n ts
@@ -188,7 +189,7 @@ eleven_is_first s area y k p = at (outcome s area)
         → (k < length (file_model s).nodes) × (¬ Flag (file_model s).events (node_network (file_model s) k))
         × ((xs : List ℕ) → IsListOf (file_model s).events (node_network (file_model s) k) xs → most_pairs < length xs)
         × ((j : ℕ) → j < k → NodePasses (file_model s) j)
-    at (unread f q m v) = let z : f.number ≡ 11 = cc in absurd (omega arith)
+    at (unread f q m v) = let z : number_of f.reason ≡ 11 = cc in absurd (omega arith)
     at (roomless a l v) = let z : ◌≡◌ {A = ℕ} 13 11 = cc in absurd (omega arith)
     at (judged a l v z) = first_over (file_model s) (well s y a) (few_events s y a) k (sym v ∙ p)
 
@@ -197,6 +198,6 @@ unfolding TwelveNever
 twelve_is_never s area y k p = at (outcome s area)
   where
     at : Outcome s area → ⊥
-    at (unread f q m v) = let z : f.number ≡ 12 = cc in omega arith
+    at (unread f q m v) = let z : number_of f.reason ≡ 12 = cc in omega arith
     at (roomless a l v) = let z : ◌≡◌ {A = ℕ} 13 12 = cc in omega arith
     at (judged a l v z) = twelve_never (file_model s) (well s y a) (few_events s y a) k (sym v ∙ p)

@@ -11,12 +11,12 @@ use Rattle.decoding.specs.Bytes.{AreBytes}
 use Rattle.reader.specs.Scan.{readable, says}
 use Rattle.reader.specs.File.{file_model}
 use Rattle.filling.specs.Building.{zeros}
-use Rattle.verdict.specs.Answers.{verdict_of, needed}
+use Rattle.verdict.specs.Answers.{needed}
 use Rattle.analysis.specs.Analysis.{analysis_of, area_after}
 
 -- document 01's verdict on the file s with a lent area
 unfoldable pub verdict_on : List ℕ → List ℕ → Verdict
-verdict_on s area = verdict_of (analysis_of s area)
+verdict_on s area = analysis_of s area
 
 -- demand 2: a readable file with enough room passes exactly when no flag is up and no list has more than 256 pairs
 unfoldable pub PassExactly : Type 0

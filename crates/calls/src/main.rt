@@ -6,35 +6,21 @@ ghost use Rattle.std.specs.Prelude.{◌<◌};
 
 use std::env::{Env, FillError};
 use std::fs::File;
-use std::{io, str};
-use writer::Written;
+use std::{array, io, str};
+use tests::Refusal;
 
-// Number k of the file.
-fn number(b: &[u8], k: usize) -> u32
+// Number k of a call.
+fn number(call: &[u8; 76], k: usize) -> u32
     requires { k < 19 }
 {
-    let i = k * 4;
-    let low = decoding::byte_at(b, i) + 256 * decoding::byte_at(b, i + 1);
-    low + 65536 * (decoding::byte_at(b, i + 2) + 256 * decoding::byte_at(b, i + 3))
+    let (words, _) = call.as_chunks::<4>();
+    u32::from_le_bytes(words[k])
 }
 
-// The seventeen numbers behind the used length and the kind.
-fn numbers(b: &[u8]) -> [u32; 17] {
-    let mut xs = [0u32; 17];
-    for i in 0..17 {
-        xs[i] = number(b, i + 2);
-    }
-    xs
-}
-
-fn print_answer(rt: &impl Print, w: Written) -> io::Result<()> {
+fn print_answer(rt: &impl Print, w: Result<usize, Refusal>) -> io::Result<()> {
     match w {
-        Written::Appended(end) => print!(rt; " used {end}"),
-        Written::Rejected(f) => {
-            let number = f.number;
-            let place = f.place;
-            print!(rt; " refused {number} {place}")
-        }
+        Ok(end) => print!(rt; " used {end}"),
+        Err(f) => print!(rt; " refused {} {}", f.reason.number(), f.place),
     }
 }
 
@@ -47,6 +33,7 @@ fn print_bytes(rt: &impl Print, bytes: &[u8]) -> io::Result<()> {
 }
 
 // The call, and what it came to.
+// By hand: the kind is a number, any that the file says.
 fn make(
     rt: &impl Print,
     buffer: &mut [u8],
@@ -60,14 +47,14 @@ fn make(
 }
 
 fn replay_call(rt: &impl Print, name: &[u8], file: &mut [u8]) -> io::Result<()> {
-    if file.len() < 76 {
+    let Some((call, buffer)) = file.split_first_chunk_mut::<76>() else {
         return println!(rt; "short");
-    }
-    let used = number(file, 0);
-    let kind = number(file, 1);
-    let xs = numbers(file);
+    };
+    let used = number(call, 0);
+    let kind = number(call, 1);
+    let xs = array::from_fn(|i| number(call, i + 2));
     rt.write_all(name)?;
-    make(rt, &mut file[76..], used as usize, kind, xs)
+    make(rt, buffer, used as usize, kind, xs)
 }
 
 fn replay_file(rt: &HostRuntime, name: &[u8]) -> io::Result<()> {
@@ -84,6 +71,7 @@ fn replay_file(rt: &HostRuntime, name: &[u8]) -> io::Result<()> {
 
 fn main(rt: HostRuntime) -> io::Result<()> {
     let mut name = [0u8; 4096];
+    // By hand in each program: one function for all would be a public one, of whose files no clause can say anything.
     for k in 1..usize::MAX {
         match rt.arg(k, &mut name) {
             Ok(length) => replay_file(&rt, &name[..length])?,

@@ -12,8 +12,6 @@ use Rattle.network.proofs.Lists.{list_is, list_unique}
 use Rattle.network.proofs.Listed.{never_empty}
 use Rattle.network.proofs.Nodes.{nodes_formed, nodes_clear}
 use Rattle.decoding.specs.Bytes.{AreBytes}
-use Rattle.reader.specs.declared.Reading.{Reading}
-use Rattle.reader.specs.declared.Reading.TheVariants.{Readable, Unreadable}
 use Rattle.reader.specs.Scan.{readable, says, said_of, reading_of}
 use Rattle.reader.specs.File.{file_model}
 use Rattle.reader.specs.Encoding.{record_of_node}
@@ -29,6 +27,9 @@ use Rattle.analysis.proofs.Promise.{passes_exactly, sections_are_lists, pass_bou
 use Rattle.report.specs.Text.{first_line, pair_count}
 use Rattle.report.specs.Printed.{verdict_at, kind_of, node_text, in_turn, printed_for, printed}
 use Rattle.console.specs.Promise.{section_text, lines_from, LinesArePrinted}
+use Rattle.std.specs.Prelude.{Result, Ok, Err}
+use Rattle.tests.specs.declared.Refusal.{Refusal}
+use Rattle.progress.specs.declared.Progress.{Progress}
 
 -- a list without zeros, then zeros: as many pairs as the list has
 count_of_list : (xs : List ℕ) (m : ℕ) → ((x : ℕ) → Memᴰ x xs → x ≡ 0 → ⊥) → pair_count (xs ++ zeros m) ≡ length xs
@@ -120,9 +121,9 @@ verdict_at_lem : (s area : List ℕ) → says s ≡ readable → verdict_on s ar
 unfolding verdict_at says said_of
 verdict_at_lem s area e q = at (reading_of s) refl
   where
-    at : (v : Reading) → reading_of s ≡ v → verdict_on s area ≡ verdict_at v s
-    at (Unreadable f) r = absurd (read_not s f e r)
-    at (Readable g) r = q
+    at : (v : Result Progress Refusal) → reading_of s ≡ v → verdict_on s area ≡ verdict_at v s
+    at (Err f) r = absurd (read_not s f e r)
+    at (Ok g) r = q
 
 pub lines_are_printed : LinesArePrinted
 unfolding LinesArePrinted lines_from printed printed_for verdict_at needed

@@ -1,5 +1,3 @@
-pub mod Adding
-pub mod Gathering
 pub mod FromArea
 pub mod Walking
 pub mod Promise

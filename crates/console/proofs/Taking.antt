@@ -5,21 +5,21 @@ use Rattle.std.specs.Prelude.{⊤}
 use Rattle.std.specs.declared.option.Option.{Option}
 use Rattle.std.specs.Io.KnownBytes.{Consumes, IsAtEnd}
 use Rattle.decoding.specs.Bytes.{AreBytes, byte}
-use Rattle.verdict.specs.declared.Answer.{Answer}
-use Rattle.verdict.specs.Answers.{verdict_of}
+use Rattle.verdict.specs.Answers.{verdict_of, Answer}
 use Rattle.analysis.specs.Analysis.{analysis_of, area_after}
 use Rattle.analysis.specs.Promise.{verdict_on}
 use Rattle.report.specs.Printed.{printed}
 use Rattle.console.specs.Output.{IsWritten}
 use Rattle.console.specs.Promise.{answer_text, PrintsWhatItTakes}
 use Rattle.console.proofs.Promise.{answer_printed}
+use Rattle.network.specs.Verdict.{Verdict}
 
 -- the text of an analysis in an area with room enough is the printed result
 pub analysed_printed : (s area area' : List ℕ) (a : Answer) → ((i : ℕ) → byte s i < 256) → 8192 ≤ length area
-    → a ≡ analysis_of s area → area' ≡ area_after s area → answer_text s (verdict_of a) area' ≡ printed s
+    → verdict_of a ≡ analysis_of s area → area' ≡ area_after s area → answer_text s (verdict_of a) area' ≡ printed s
 unfolding verdict_on AreBytes
 analysed_printed s area area' a y room q z =
-    ap (λ (x : Answer). answer_text s (verdict_of x) area') q ∙ ap (answer_text s (verdict_of (analysis_of s area))) z
+    ap (λ (v : Verdict). answer_text s v area') q ∙ ap (answer_text s (analysis_of s area)) z
     ∙ answer_printed s area y room
 
 at_end : {E : Type 0} (read : Result ⊤ E) (m n : ℕ) (left : Option (List ℕ)) → m ≡ n → OnOk read (n < 4097 → IsAtEnd left)

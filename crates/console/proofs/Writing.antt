@@ -1,83 +1,73 @@
--- A text that is written piece by piece: how far it came is a beginning of it. Assumes nothing.
-use Rattle.std.proofs.Common.{◌≡◌, refl, sym, ap, ◌∙◌, subst, List, ◌++◌, append_assoc, ℕ, ◌+◌, ◌-◌, ◌≤◌, arith, length, take, drop}
-use Rattle.std.proofs.Common.{take-append-drop, take_all, length-drop, Result, Ok, Err}
+-- A text that is written piece by piece: what is left of it, and behind what it goes. Assumes nothing.
+use Rattle.std.proofs.Common.{◌≡◌, sym, ap, ◌∙◌, subst, List, [], ◌∷◌, ◌++◌, append_assoc, ℕ, length, Result, Ok, Err}
+use Rattle.std.proofs.Common.{refl}
+use Rattle.std.proofs.Common.{arith, ◌-◌, take, drop, take_all, take-append-drop, length-drop}
 use Rattle.std.specs.Result.{IsErr}
-use Rattle.records.proofs.Choices.{true_not_false}
-use lib.Seq.{take-add}
 use Rattle.std.specs.Prelude.{⊤}
 use Rattle.std.specs.declared.option.Option.{Option}
-use Rattle.std.specs.Io.KnownBytes.{Appends}
-use Rattle.std.proofs.KnownBytes.{Appends-trans, starts_with_rest}
+use Rattle.std.specs.declared.io.Error.{Error}
+use Rattle.std.specs.Io.KnownBytes.{Appends, Keeps}
+use Rattle.std.proofs.KnownBytes.{Appends-nil, Appends-trans, Appends-kept, starts_with_rest}
 use Rattle.std.proofs.Transfers.{starts_with_of_append}
+use Rattle.records.proofs.Choices.{true_not_false}
 use Rattle.console.specs.Output.{IsWritten}
 
--- one more write: n bytes of what is left
-pub write_on : (a b c : Option (List ℕ)) (t : List ℕ) (done n : ℕ) → Appends a b (take done t)
-    → Appends b c (take n (take (length t - done) (drop done t))) → Appends a c (take (done + n) t)
-write_on a b c t done n p q =
-    let left : take (length t - done) (drop done t) ≡ drop done t =
-    take_all (length t - done) (drop done t) (omega (arith, length-drop done t)) in
-    subst (Appends a c) (ap (λ (u : List ℕ). take done t ++ take n u) left ∙ sym (take-add done n t))
-    (Appends-trans a b c (take done t) (take n (take (length t - done) (drop done t))) p q)
+-- to write the text t behind what a says, u is left to write behind what b says
+abbrev pub Leaves : (a : Option (List ℕ)) → List ℕ → (b : Option (List ℕ)) → List ℕ → Type 0
+Leaves a t b u = (r : Result ⊤ Error) (z : Option (List ℕ)) → IsWritten r b z u → IsWritten r a z t
 
-pub all_written : (E : Type 0) (a b : Option (List ℕ)) (t : List ℕ) (done : ℕ) → length t ≤ done → Appends a b (take done t)
-    → IsWritten {E = E} (Ok tt) a b t
+-- a part of the text is written
+pub part_written : (a b : Option (List ℕ)) (t u : List ℕ) → Appends a b t → Leaves a (t ++ u) b u
 unfolding IsWritten
-all_written E a b t done h p = (subst (Appends a b) (take_all done t h) p, tt)
-
--- a beginning of a text
-pub begun_written : {E : Type 0} (r : Result ⊤ E) (a b : Option (List ℕ)) (begun rest : List ℕ) → IsErr r → Appends a b begun
-    → IsWritten r a b (begun ++ rest)
-unfolding IsWritten
-begun_written (Ok x) a b begun rest q p = absurd (true_not_false (sym q))
-begun_written (Err e) a b begun rest q p = (tt, (begun, starts_with_of_append (begun ++ rest) begun rest refl, p))
-
-pub some_written : {E : Type 0} (r : Result ⊤ E) (a b : Option (List ℕ)) (t : List ℕ) (done : ℕ) → IsErr r
-    → Appends a b (take done t) → IsWritten r a b t
-some_written r a b t done q p =
-    subst (IsWritten r a b) (take-append-drop done t) (begun_written r a b (take done t) (drop done t) q p)
-
--- a whole text
-pub ok_written : {E : Type 0} (r : Result ⊤ E) (a b : Option (List ℕ)) (t : List ℕ) → r ≡ Ok tt → Appends a b t
-    → IsWritten r a b t
-unfolding IsWritten
-ok_written (Ok x) a b t q p = (p, tt)
-ok_written (Err e) a b t q p = let z : ◌≡◌ {A = ℕ} 0 1 = cc in absurd (omega arith)
-
--- of a text that was written
-pub written_out : {E : Type 0} (r : Result ⊤ E) (a b : Option (List ℕ)) (t : List ℕ) → IsWritten r a b t → r ≡ Ok tt
-    → Appends a b t
-unfolding IsWritten
-written_out (Ok x) a b t w q = w.0
-written_out (Err e) a b t w q = let z : ◌≡◌ {A = ℕ} 0 1 = cc in absurd (omega arith)
-
--- a text behind one that was written
-pub written_behind : {E : Type 0} (r : Result ⊤ E) (a b c : Option (List ℕ)) (t u : List ℕ) → Appends a b t
-    → IsWritten r b c u → IsWritten r a c (t ++ u)
-unfolding IsWritten
-written_behind (Ok x) a b c t u p w = (Appends-trans a b c t u p w.0, tt)
-written_behind (Err e) a b c t u p (w, (begun, s, q)) = (
+part_written a b t u p (Ok x) z w = (Appends-trans a b z t u p w.0, tt)
+part_written a b t u p (Err e) z (w, (begun, s, q)) = (
   tt,
   (
     t ++ begun,
     starts_with_of_append (t ++ u) (t ++ begun) (drop (length begun) u)
-        (ap (λ (v : List ℕ). t ++ v) (starts_with_rest u begun s) ∙ sym (append_assoc t begun (drop (length begun) u))),
-    Appends-trans a b c t begun p q,
+        (ap (λ v. t ++ v) (starts_with_rest u begun s) ∙ sym (append_assoc t begun (drop (length begun) u))),
+    Appends-trans a b z t begun p q,
   ),
 )
 
--- a longer text fails with its beginning
-pub written_not : {E D : Type 0} (r : Result ⊤ E) (d : Result ⊤ D) (a b : Option (List ℕ)) (t u : List ℕ) → IsErr r → IsErr d
-    → IsWritten r a b t → IsWritten d a b (t ++ u)
+-- its first n bytes
+pub first_written : (a b : Option (List ℕ)) (n : ℕ) (t : List ℕ) → Appends a b (take n t)
+    → Leaves a t b (take (length t - n) (drop n t))
+first_written a b n t p =
+    let rest : take (length t - n) (drop n t) ≡ drop n t =
+    take_all (length t - n) (drop n t) (omega (arith, length-drop n t)) in
+    rw rest (subst (λ v. Leaves a v b (drop n t)) (take-append-drop n t) (part_written a b (take n t) (drop n t) p))
+
+-- a text without a byte
+pub none_left : (a : Option (List ℕ)) (t : List ℕ) → length t ≡ 0 → IsWritten {E = Error} (Ok tt) a a t
 unfolding IsWritten
-written_not (Ok x) d a b t u q z w = absurd (true_not_false (sym q))
-written_not (Err f) (Ok x) a b t u q z w = absurd (true_not_false (sym z))
-written_not (Err f) (Err d) a b t u q z (w, (begun, s, p)) = (
+none_left a [] e = (Appends-nil a, tt)
+none_left a (x ∷ t) e = absurd (omega arith)
+
+-- an error before a byte of the text was written
+pub none_written : {E : Type 0} (r : Result ⊤ E) (a b : Option (List ℕ)) (t : List ℕ) → IsErr r → Keeps a b
+    → IsWritten r a b t
+unfolding IsWritten
+none_written (Ok x) a b t f k = absurd (true_not_false (sym f))
+none_written (Err e) a b t f k = (tt, ([], refl, Appends-kept a a b [] (Appends-nil a) k))
+
+-- a first part of the text is written whole
+pub part_left : (a b : Option (List ℕ)) (t u v : List ℕ) → v ≡ t ++ u → IsWritten {E = Error} (Ok tt) a b t
+    → Leaves a v b u
+unfolding IsWritten
+part_left a b t u v q w = subst (λ s. Leaves a s b u) (sym q) (part_written a b t u w.0)
+
+-- a first part of the text is not written whole
+pub part_failed : {E D : Type 0} (e : E) (r : Result ⊤ D) (a b : Option (List ℕ)) (t u v : List ℕ) → v ≡ t ++ u
+    → IsErr r → IsWritten (Err e) a b t → IsWritten r a b v
+unfolding IsWritten
+part_failed e (Ok x) a b t u v q f w = absurd (true_not_false (sym f))
+part_failed e (Err d) a b t u v q f (w, (begun, s, p)) = (
   tt,
   (
     begun,
-    starts_with_of_append (t ++ u) begun (drop (length begun) t ++ u)
-        (ap (λ (v : List ℕ). v ++ u) (starts_with_rest t begun s) ∙ append_assoc begun (drop (length begun) t) u),
+    starts_with_of_append v begun (drop (length begun) t ++ u)
+        (q ∙ ap (λ x. x ++ u) (starts_with_rest t begun s) ∙ append_assoc begun (drop (length begun) t) u),
     p,
   ),
 )

@@ -1,5 +1,5 @@
--- What stands in the output's buffer, and what an output holds of a text. Assumes nothing.
-use Rattle.std.specs.Prelude.{◌≡◌, ℕ, ◌+◌, ◌≤◌, Result, OnOk, OnErr, ⊤, length, take}
+-- A node's text, and what an output holds of a text. Assumes nothing.
+use Rattle.std.specs.Prelude.{ℕ, Result, OnOk, OnErr, ⊤, take}
 use mathlib.Core.List.{List, ◌++◌, flat_map}
 use Rattle.std.specs.declared.option.Option.{Option}
 use Rattle.std.specs.Io.{StartsWith}
@@ -9,18 +9,6 @@ use Rattle.report.specs.Text.{node_line, pair_line, pair_count}
 -- the text of node k of a kind whose section is xs: its line, and a line for each entry before the first zero
 unfoldable pub text_of : ℕ → ℕ → List ℕ → List ℕ
 text_of k kind xs = node_line k kind (pair_count xs) ++ flat_map pair_line (take (pair_count xs) xs)
-
--- the text t of a line was put behind the first `at` bytes of the buffer, which is then used up to `end`
-pub record Added (buffer : List ℕ) (at : ℕ) (t buffer' : List ℕ) (end : ℕ) : Type 0 where
-  pub end_is : end ≡ at + length t
-  pub end_near : end ≤ at + 40
-  pub text_is : take end buffer' ≡ take at buffer ++ t
-  pub size_kept : length buffer' ≡ length buffer
-
--- the buffer is used up to `end`, by the text t
-pub record Holds (buffer : List ℕ) (end : ℕ) (t : List ℕ) : Type 0 where
-  pub end_is : end ≡ length t
-  pub text_is : take end buffer ≡ t
 
 -- how writing the text t went: all of it was added to what the output held or, where the answer is an error, a beginning
 -- of it; of an output that says what it holds

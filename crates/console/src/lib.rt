@@ -1,72 +1,78 @@
 // The printed result, to what takes bytes: a node's text is gathered in a buffer and written at once.
 #![tactic(auto)]
 
-ghost use Rattle.std.specs.Prelude.{◌≡◌, ◌≤◌, length, take, drop};
+ghost use Rattle.std.specs.Prelude.{◌≡◌, ◌+◌, ◌≤◌, ◌++◌, length, drop};
+ghost use Rattle.arrayvec.specs.ArrayVec.{array_vec_len};
 ghost use Rattle.verdict.specs.Answers.{verdict_of};
 ghost use Rattle.places.specs.Finding.{node_place};
 ghost use Rattle.report.specs.Text.{first_line};
 ghost use Rattle.report.specs.Printed.{printed};
-ghost use Rattle.console.specs.Output.{text_of, Added, Holds, IsWritten};
+ghost use Rattle.console.specs.Output.{text_of, IsWritten};
 ghost use Rattle.console.specs.Walking.{walked, most_records};
 ghost use Rattle.console.specs.Promise.{answer_text, PrintsWhatItTakes};
 
+pub mod promises;
+
+use arrayvec::ArrayVec;
+use records::Kind;
 use report::Line;
 use std::io;
 use std::io::{ErrorKind, Read, Write};
-use verdict::Answer;
+use tests::Refusal;
+use verdict::Verdict;
+
+// A node's text: its line, at most 40 bytes, and at most 256 lines of 10 bytes.
+type NodeText = ArrayVec<u8, 2600>;
 
 // A text, by as many writes as it takes; a write that takes nothing is a failure.
 fn write_text<W: Write>(out: &mut W, text: &[u8]) -> io::Result<()>
     ensures { IsWritten result (W.contents out.old) (W.contents out.new) text.now }
 {
-    let mut done = 0;
-    while done < text.len() {
-        let count = out.write(&text[done..])?;
-        if count == 0 {
-            return Err(io::Error::from(ErrorKind::WriteZero));
+    // By hand: std's `write_all` says nothing of what a failed write leaves, as `IsWritten` does.
+    let mut rest = text;
+    while !rest.is_empty() {
+        match out.write(rest)? {
+            0 => return Err(io::Error::from(ErrorKind::WriteZero)),
+            count => rest = &rest[count..],
         }
-        done += count;
     }
     Ok(())
 }
 
 // The first line of an answer.
-fn print_first<W: Write>(out: &mut W, a: Answer) -> io::Result<()>
+fn print_first<W: Write>(out: &mut W, a: Result<Verdict, Refusal>) -> io::Result<()>
     ensures { IsWritten result (W.contents out.old) (W.contents out.new) (first_line (verdict_of a)) }
 {
-    let line = report::first_line(a);
-    let end = line.length;
-    write_text(out, &line.bytes[..end])
+    write_text(out, report::first_line(a).as_slice())
 }
 
-// A line behind the first `at` bytes of the buffer; where it ends. All 40 bytes are copied: the zeros behind the line
-// stand where the next line goes.
-fn add_line(line: Line, buffer: &mut [u8; 2640], at: usize) -> usize
-    requires { (at ≤ 2600) × (line.length ≤ 40) × (length line.bytes ≡ 40) × (length buffer.old ≡ 2640) }
-    ensures { Added buffer.old at (take line.length line.bytes) buffer.new result }
+// A line behind what the text has.
+fn add_line(text: &mut NodeText, line: Line)
+    requires { array_vec_len text.old + array_vec_len line ≤ 2600 }
+    ensures { text.new.items ≡ text.old.items ++ line.items }
 {
-    let bytes = line.bytes;
-    let mut i = 0;
-    while i < 40 {
-        buffer[at + i] = bytes[i];
-        i += 1;
-    }
-    at + line.length
+    text.try_extend_from_slice(line.as_slice()).unwrap();
 }
 
-// The text of a node in the buffer; where it ends.
-fn node_text(k: u32, kind: u32, section: &[u32], buffer: &mut [u8; 2640]) -> usize
-    requires { (length section.now ≤ 256) × (length buffer.old ≡ 2640) }
-    ensures { Holds buffer.new result (text_of k kind section.now) × (length buffer.new ≡ 2640) }
+// The text of a node, in the room of another's.
+// By hand: the kind is a number, since a file that no reader has seen may have any (`answer_text`).
+fn node_text(k: u32, kind: u32, section: &[u32], text: &mut NodeText)
+    requires { length section.now ≤ 256 }
+    ensures { text.new.items ≡ text_of k kind section.now }
 {
     let count = report::pair_count(section);
-    let mut at = add_line(report::node_line(k, kind, count), buffer, 0);
-    let mut i = 0;
-    while i < count {
-        at = add_line(report::pair_line(section[i]), buffer, at);
-        i += 1;
+    text.clear();
+    add_line(text, report::node_line(k, kind, count));
+    for x in &section[..count] {
+        add_line(text, report::pair_line(*x));
     }
-    at
+}
+
+// What stands behind the first n bytes.
+fn behind(bytes: &[u8], n: usize) -> &[u8]
+    ensures { result.now ≡ drop n bytes.now }
+{
+    bytes.get(n..).unwrap_or_default()
 }
 
 // The nodes of a file that passed, one behind another up to its end record, each with its section of the area. An area
@@ -76,22 +82,23 @@ fn print_nodes<W: Write>(out: &mut W, bytes: &[u8], area: &[u32]) -> io::Result<
     ensures { IsWritten result (W.contents out.old) (W.contents out.new)
         (walked most_records area.now (drop (node_place bytes.now 0) bytes.now) 0) }
 {
-    let mut buffer = [0u8; 2640];
-    let mut place = places::node_place(bytes, 0);
-    let mut k: u32 = 0;
-    let mut at = 0;
-    while place < bytes.len() {
-        let kind = bytes[place] as u32;
-        if kind == records::END {
+    // By hand: the sizes differ from record to record, and the bytes, the sections and the number go on together.
+    let mut rest = behind(bytes, places::node_place(bytes, 0));
+    let mut sections = area;
+    let mut text = NodeText::new();
+    let mut k = 0;
+    while let Some(first) = rest.first() {
+        let kind = *first as u32;
+        if kind == Kind::End.number() {
             return Ok(());
         }
-        if area.len() - at < 256 {
+        let Some((section, others)) = sections.split_first_chunk::<256>() else {
             return Err(io::Error::from(ErrorKind::InvalidInput));
-        }
-        let end = node_text(k, kind, &area[at..at + 256], &mut buffer);
-        write_text(out, &buffer[..end])?;
-        place += records::size_of(kind);
-        at += 256;
+        };
+        node_text(k, kind, section, &mut text);
+        write_text(out, text.as_slice())?;
+        rest = behind(rest, records::size_of(kind));
+        sections = others;
         k += 1;
     }
     Ok(())
@@ -99,7 +106,12 @@ fn print_nodes<W: Write>(out: &mut W, bytes: &[u8], area: &[u32]) -> io::Result<
 
 // The printed result for a file: the first line of the answer and, after a pass, its nodes with the area that the
 // analysis left. A file that passes has at most 4,096 bytes.
-pub fn print_result<W: Write>(out: &mut W, bytes: &[u8], a: Answer, area: &[u32]) -> io::Result<()>
+pub fn print_result<W: Write>(
+    out: &mut W,
+    bytes: &[u8],
+    a: Result<Verdict, Refusal>,
+    area: &[u32],
+) -> io::Result<()>
     ensures { IsWritten result (W.contents out.old) (W.contents out.new)
         (answer_text bytes.now (verdict_of a) area.now) }
 {
@@ -108,9 +120,9 @@ pub fn print_result<W: Write>(out: &mut W, bytes: &[u8], a: Answer, area: &[u32]
         return Ok(());
     }
     match a {
-        Answer::Pass(_) => print_nodes(out, bytes, area),
-        Answer::Inconclusive(_) => Ok(()),
-        Answer::Refused(_) => Ok(()),
+        Ok(Verdict::Pass { .. }) => print_nodes(out, bytes, area),
+        Ok(Verdict::Inconclusive(_)) => Ok(()),
+        Err(_) => Ok(()),
     }
 }
 

@@ -1,12 +1,13 @@
 -- What a record's encoding decodes to is the record, whatever stands behind it.
 -- Assumes nothing.
-use Rattle.std.proofs.Common.{◌≡◌, refl, ap, List, [], ◌∷◌, ◌++◌, ℕ, arith, length}
+use Rattle.std.proofs.Common.{◌≡◌, refl, ap, ◌∙◌, List, ◌∷◌, ◌++◌, ℕ, arith, length, take}
+use Rattle.std.proofs.Math.Seq.{take-append_seam}
 use Rattle.records.specs.declared.Record.{Record}
 use Rattle.records.specs.Kinds.{body_length, size_of}
 use Rattle.decoding.specs.Bytes.{targets_in, record_of, first_record, bytes_of}
 use Rattle.records.specs.Records.{header_record, machine_record, step_record, leaf_record, join_record, hide_record}
 use Rattle.records.specs.Records.{rename_record, end_record}
-use Rattle.decoding.proofs.Bytes.{two_back}
+use Rattle.decoding.proofs.Bytes.{two_back, spelled}
 
 pub record Decodes (r : Record) : Type 0 where
   pub comes_back : (u : List ℕ) → first_record (bytes_of r ++ u) ≡ r
@@ -38,27 +39,12 @@ decodes_hide i A = record { comes_back = λ u. ap (hide_record i) (two_back A); 
 
 pub decodes_rename : (i : ℕ) (f : List ℕ) → length f ≡ 16 → Decodes (rename_record i f)
 unfolding first_record record_of size_of body_length bytes_of targets_in
-decodes_rename i [] h = absurd (omega arith)
-decodes_rename i (x0 ∷ []) h = absurd (omega arith)
-decodes_rename i (x0 ∷ x1 ∷ []) h = absurd (omega arith)
-decodes_rename i (x0 ∷ x1 ∷ x2 ∷ []) h = absurd (omega arith)
-decodes_rename i (x0 ∷ x1 ∷ x2 ∷ x3 ∷ []) h = absurd (omega arith)
-decodes_rename i (x0 ∷ x1 ∷ x2 ∷ x3 ∷ x4 ∷ []) h = absurd (omega arith)
-decodes_rename i (x0 ∷ x1 ∷ x2 ∷ x3 ∷ x4 ∷ x5 ∷ []) h = absurd (omega arith)
-decodes_rename i (x0 ∷ x1 ∷ x2 ∷ x3 ∷ x4 ∷ x5 ∷ x6 ∷ []) h = absurd (omega arith)
-decodes_rename i (x0 ∷ x1 ∷ x2 ∷ x3 ∷ x4 ∷ x5 ∷ x6 ∷ x7 ∷ []) h = absurd (omega arith)
-decodes_rename i (x0 ∷ x1 ∷ x2 ∷ x3 ∷ x4 ∷ x5 ∷ x6 ∷ x7 ∷ x8 ∷ []) h = absurd (omega arith)
-decodes_rename i (x0 ∷ x1 ∷ x2 ∷ x3 ∷ x4 ∷ x5 ∷ x6 ∷ x7 ∷ x8 ∷ x9 ∷ []) h = absurd (omega arith)
-decodes_rename i (x0 ∷ x1 ∷ x2 ∷ x3 ∷ x4 ∷ x5 ∷ x6 ∷ x7 ∷ x8 ∷ x9 ∷ x10 ∷ []) h = absurd (omega arith)
-decodes_rename i (x0 ∷ x1 ∷ x2 ∷ x3 ∷ x4 ∷ x5 ∷ x6 ∷ x7 ∷ x8 ∷ x9 ∷ x10 ∷ x11 ∷ []) h = absurd (omega arith)
-decodes_rename i (x0 ∷ x1 ∷ x2 ∷ x3 ∷ x4 ∷ x5 ∷ x6 ∷ x7 ∷ x8 ∷ x9 ∷ x10 ∷ x11 ∷ x12 ∷ []) h = absurd (omega arith)
-decodes_rename i (x0 ∷ x1 ∷ x2 ∷ x3 ∷ x4 ∷ x5 ∷ x6 ∷ x7 ∷ x8 ∷ x9 ∷ x10 ∷ x11 ∷ x12 ∷ x13 ∷ []) h = absurd (omega arith)
-decodes_rename i (x0 ∷ x1 ∷ x2 ∷ x3 ∷ x4 ∷ x5 ∷ x6 ∷ x7 ∷ x8 ∷ x9 ∷ x10 ∷ x11 ∷ x12 ∷ x13 ∷ x14 ∷ []) h =
-    absurd (omega arith)
-decodes_rename i (x0 ∷ x1 ∷ x2 ∷ x3 ∷ x4 ∷ x5 ∷ x6 ∷ x7 ∷ x8 ∷ x9 ∷ x10 ∷ x11 ∷ x12 ∷ x13 ∷ x14 ∷ x15 ∷ []) h =
-    record { comes_back = λ u. refl; sized = refl }
-decodes_rename i (x0 ∷ x1 ∷ x2 ∷ x3 ∷ x4 ∷ x5 ∷ x6 ∷ x7 ∷ x8 ∷ x9 ∷ x10 ∷ x11 ∷ x12 ∷ x13 ∷ x14 ∷ x15 ∷ y ∷ t) h =
-    absurd (omega arith)
+decodes_rename i f h = record {
+  comes_back = λ u.
+      let e : take 16 (f ++ u) ≡ f = rw (← h) (take-append_seam f u) in
+      ap (λ (t : List ℕ). rename_record i (targets_in (7 ∷ i ∷ t))) e ∙ ap (rename_record i) (spelled 16 f h);
+  sized = omega arith;
+}
 
 pub decodes_end : (x : ℕ) → Decodes (end_record x)
 unfolding first_record record_of size_of body_length bytes_of

@@ -1,4 +1,3 @@
-pub mod Decoding
 pub mod Bytes
 pub mod Decodes
 pub mod Shapes

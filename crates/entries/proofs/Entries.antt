@@ -1,11 +1,12 @@
 -- The events that an entry has room for: what the operations on sets make of 16 events.
 -- Assumes nothing.
-use Rattle.std.proofs.Common.{◌≡◌, sym, ap, ◌∙◌, Bool, true, ◌&&◌, ℕ, ◌^◌, ◌<◌, arith}
-use Rattle.events.specs.Sets.{room, has, set_of, full, intersection}
+use Rattle.std.proofs.Common.{◌≡◌, sym, ap, ◌∙◌, Bool, true, ◌&&◌, ℕ, ◌^◌, ◌<◌, ◌≤◌, arith}
+use Rattle.events.specs.Sets.{room, has, set_of, full, intersection, difference}
 use Rattle.events.proofs.Members.{set_of_has, set_of_below, set_of_ext, set_of_self}
 use Rattle.events.proofs.Machine.{has_beyond}
-use Rattle.events.proofs.Widths.{set_of_widen}
+use Rattle.events.proofs.Widths.{set_of_widen, union_widen, intersection_widen, difference_widen}
 use Rattle.events.proofs.Booleans.{and_false, and_true}
+use Rattle.network.specs.Rules.{joined_c}
 use Rattle.network.specs.Lists.{first_of, second_of}
 use Rattle.entries.specs.Entries.{width, narrow}
 
@@ -31,9 +32,6 @@ narrow_is s =
     ∙ set_of_ext width (λ e. has s e && has (full width) e) (has s)
     (λ e l. ap (λ (b : Bool). has s e && b) (set_of_has width (λ e. true) e l) ∙ and_true (has s e))
 
-pub narrowed : (s k r : ℕ) → k ≡ full width → r ≡ intersection room s k → r ≡ narrow s
-narrowed s k r hk hr = hr ∙ ap (intersection room s) hk ∙ narrow_is s
-
 -- what the set type's operations make with room for 32 events is, narrowed, what they make with room for 16
 pub narrow_set_of : (p : ℕ → Bool) → narrow (set_of room p) ≡ set_of width p
 unfolding narrow
@@ -47,3 +45,16 @@ narrow_keeps p = set_of_ext width (has (set_of width p)) p (set_of_has width p)
 pub narrow_same : (s : ℕ) → s < 2 ^ width → narrow s ≡ s
 unfolding narrow
 narrow_same s h = sym (set_of_self width s h)
+
+-- C of a join, of sets of n events
+pub joined_widen : (n k A C₁ C₂ : ℕ) → n ≤ k → C₁ < 2 ^ n → C₂ < 2 ^ n → joined_c k A C₁ C₂ ≡ joined_c n A C₁ C₂
+joined_widen n k A C₁ C₂ h p q =
+    rw (
+      intersection_widen n k C₁ A h p,
+      intersection_widen n k C₂ A h q,
+      difference_widen n k C₁ A h p,
+      difference_widen n k C₂ A h q,
+      union_widen n k (intersection n C₁ A) (intersection n C₂ A) h (set_of_below n _) (set_of_below n _),
+      intersection_widen n k (difference n C₁ A) (difference n C₂ A) h (set_of_below n _),
+    )
+    (union_widen n k _ _ h (set_of_below n _) (set_of_below n _))

@@ -54,9 +54,11 @@ module _ (n : ℕ) (n≤16 : n ≤ width) where
       (Memᴰ.append_cases (flat_map (λ x. flat_map (together_candidate n A x) ys) xs)
       (in_order_out (join_candidates n A xs ys) z h))
   list_inside (hide a A) z h =
-      let r = map_out (hide_candidate n A) (list_of n a) z (in_order_out (map (hide_candidate n A) (list_of n a)) z h) in
+      let r = map_out (hide_candidate n A) (list_of n a) z
+      (in_order_out (map (hide_candidate n A) (list_of n a)) z h) in
       rw r.2 (inside_pack _ _ (set_of_below n _) (set_of_below n _))
   list_inside (rename a f) z h =
-      let r = map_out (rename_candidate n f) (list_of n a) z (in_order_out (map (rename_candidate n f) (list_of n a)) z h)
+      let r = map_out (rename_candidate n f) (list_of n a) z
+      (in_order_out (map (rename_candidate n f) (list_of n a)) z h)
       in
       rw r.2 (inside_pack _ _ (set_of_below n _) (set_of_below n _))

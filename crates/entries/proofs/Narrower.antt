@@ -5,50 +5,44 @@ use Rattle.std.proofs.Common.{◌≤◌, arith, T, eqb→eq, ne_eqb}
 use mathlib.Core.List.{flat_map, Memᴰ}
 use lib.Dec.{eqb_refl}
 use mir.Facts.{and_yes, yes_and}
-use Rattle.events.specs.Sets.{has, any_below, union, intersection, difference, disjoint, image, all_sources}
+use Rattle.events.specs.Sets.{has, any_below, union, image, all_sources}
 use Rattle.events.proofs.Members.{set_of_below, any_in, any_out, set_of_ext}
 use Rattle.events.proofs.Machine.{has_beyond}
-use Rattle.events.proofs.Widths.{set_of_widen, union_widen, intersection_widen, difference_widen, disjoint_widen}
+use Rattle.events.proofs.Widths.{set_of_widen, union_widen, difference_widen, disjoint_widen}
 use Rattle.events.proofs.Widths.{any_widen}
 use Rattle.events.proofs.Booleans.{yes_true, no_false}
 use Rattle.network.specs.Network.{target, sends, TargetsBelow}
 use Rattle.network.specs.Rules.{joined_c}
-use Rattle.network.specs.Lists.{pack, first_of, second_of, keep_if, together_candidate, alone_candidate, join_candidates}
+use Rattle.network.specs.Lists.{first_of, second_of, together_candidate, alone_candidate, join_candidates}
 use Rattle.network.specs.Lists.{hide_candidate, rename_candidate}
 use Rattle.entries.specs.Entries.{width, Inside, AllInside, KeepsOthers}
+use Rattle.entries.proofs.Entries.{joined_widen}
 
 module _ (n : ℕ) (n≤16 : n ≤ width) where
-  joined_narrower : (A C₁ C₂ : ℕ) → C₁ < 2 ^ n → C₂ < 2 ^ n → joined_c width A C₁ C₂ ≡ joined_c n A C₁ C₂
-  joined_narrower A C₁ C₂ p q =
-      let k = width in
-      ap₂ (union k)
-      (ap₂ (union k) (intersection_widen n k C₁ A n≤16 p) (intersection_widen n k C₂ A n≤16 q)
-      ∙ union_widen n k (intersection n C₁ A) (intersection n C₂ A) n≤16 (set_of_below n _) (set_of_below n _))
-      (ap₂ (intersection k) (difference_widen n k C₁ A n≤16 p) (difference_widen n k C₂ A n≤16 q)
-      ∙ intersection_widen n k (difference n C₁ A) (difference n C₂ A) n≤16 (set_of_below n _))
-      ∙ union_widen n k (union n (intersection n C₁ A) (intersection n C₂ A))
-      (intersection n (difference n C₁ A) (difference n C₂ A)) n≤16
-      (set_of_below n _) (set_of_below n _)
-
-  together_narrower : (A x y : ℕ) → Inside n x → Inside n y → together_candidate width A x y ≡ together_candidate n A x y
+  together_narrower : (A x y : ℕ) → Inside n x → Inside n y
+      → together_candidate width A x y ≡ together_candidate n A x y
   unfolding together_candidate
   together_narrower A x y p q =
-      let F = union n (first_of x) (first_of y) in
-      let C = joined_c n A (second_of x) (second_of y) in
-      ap₂ (λ (f c : ℕ). keep_if (disjoint width f c) (pack f c))
-      (union_widen n width (first_of x) (first_of y) n≤16 p.first_below q.first_below)
-      (joined_narrower A (second_of x) (second_of y) p.second_below q.second_below)
-      ∙ ap (λ (b : Bool). keep_if b (pack F C)) (disjoint_widen n width F C n≤16 (set_of_below n _))
+      rw (
+        union_widen n width (first_of x) (first_of y) n≤16 p.first_below q.first_below,
+        joined_widen n width A (second_of x) (second_of y) n≤16 p.second_below q.second_below,
+        disjoint_widen n width (union n (first_of x) (first_of y)) (joined_c n A (second_of x) (second_of y)) n≤16
+            (set_of_below n _),
+      )
+      refl
 
   alone_narrower : (A x : ℕ) → Inside n x → alone_candidate width A x ≡ alone_candidate n A x
   unfolding alone_candidate
-  alone_narrower A x p = ap (λ (b : Bool). keep_if b x) (disjoint_widen n width (first_of x) A n≤16 p.first_below)
+  alone_narrower A x p = rw (disjoint_widen n width (first_of x) A n≤16 p.first_below) refl
 
   hide_narrower : (A x : ℕ) → A < 2 ^ n → Inside n x → hide_candidate width A x ≡ hide_candidate n A x
   unfolding hide_candidate
   hide_narrower A x a p =
-      ap₂ pack (difference_widen n width (first_of x) A n≤16 p.first_below)
-      (union_widen n width (second_of x) A n≤16 p.second_below a)
+      rw (
+        difference_widen n width (first_of x) A n≤16 p.first_below,
+        union_widen n width (second_of x) A n≤16 p.second_below a,
+      )
+      refl
 
   module _ (f : List ℕ) (below : TargetsBelow n f) where
     image_narrower : (s : ℕ) → s < 2 ^ n → image width (sends f) s ≡ image n (sends f) s
@@ -86,7 +80,7 @@ module _ (n : ℕ) (n≤16 : n ≤ width) where
     rename_narrower : KeepsOthers n f → (x : ℕ) → Inside n x → rename_candidate width f x ≡ rename_candidate n f x
     unfolding rename_candidate
     rename_narrower keeps x p =
-        ap₂ pack (image_narrower (first_of x) p.first_below) (sources_narrower keeps (second_of x) p.second_below)
+        rw (image_narrower (first_of x) p.first_below, sources_narrower keeps (second_of x) p.second_below) refl
 
 -- the same for all entries of a list
 gather_ext : (f g : ℕ → List ℕ) (xs : List ℕ) → ((x : ℕ) → Memᴰ x xs → f x ≡ g x) → flat_map f xs ≡ flat_map g xs
@@ -107,7 +101,8 @@ module _ (n : ℕ) (n≤16 : n ≤ width) (xs : List ℕ) (p : AllInside n xs) w
       (gather_ext (λ x. flat_map (together_candidate width A x) ys) (λ x. flat_map (together_candidate n A x) ys) xs
       (λ x m. gather_ext (together_candidate width A x) (together_candidate n A x) ys
       (λ y k. together_narrower n n≤16 A x y (p x m) (q y k))))
-      (ap₂ ◌++◌ (gather_ext (alone_candidate width A) (alone_candidate n A) xs (λ x m. alone_narrower n n≤16 A x (p x m)))
+      (ap₂ ◌++◌
+      (gather_ext (alone_candidate width A) (alone_candidate n A) xs (λ x m. alone_narrower n n≤16 A x (p x m)))
       (gather_ext (alone_candidate width A) (alone_candidate n A) ys (λ y m. alone_narrower n n≤16 A y (q y m))))
 
   pub hide_candidates_narrower : (A : ℕ) → A < 2 ^ n → map (hide_candidate width A) xs ≡ map (hide_candidate n A) xs
@@ -119,4 +114,5 @@ module _ (n : ℕ) (n≤16 : n ≤ width) (xs : List ℕ) (p : AllInside n xs) w
       → map (rename_candidate width f) xs ≡ map (rename_candidate n f) xs
   unfolding AllInside
   rename_candidates_narrower f below keeps =
-      map_ext (rename_candidate width f) (rename_candidate n f) xs (λ x m. rename_narrower n n≤16 f below keeps x (p x m))
+      map_ext (rename_candidate width f) (rename_candidate n f) xs
+      (λ x m. rename_narrower n n≤16 f below keeps x (p x m))

@@ -32,5 +32,6 @@ pub all_sources_unique : (f : List ℕ) (s r r' : ℕ) → r ≡ all_sources wid
     → r' ≡ all_sources width (sends f) s → r ≡ r'
 all_sources_unique f s r r' p q = settled p q
 
-pub renamed_unique : (f : List ℕ) (x r r' : ℕ) → r ≡ rename_candidate width f x → r' ≡ rename_candidate width f x → r ≡ r'
+pub renamed_unique : (f : List ℕ) (x r r' : ℕ)
+    → r ≡ rename_candidate width f x → r' ≡ rename_candidate width f x → r ≡ r'
 renamed_unique f x r r' p q = settled p q

@@ -1,4 +1,4 @@
-// A pair as one entry of a list, and what one entry, or a left and a right one, yields at a node.
+//! A pair as one entry of a list, and what one entry, or a left and a right one, yields at a node.
 #![tactic(auto)]
 
 ghost use Rattle.std.specs.Prelude.{◌≡◌};
@@ -11,30 +11,41 @@ ghost use Rattle.entries.specs.Entries.{width, narrow, Together, Alone};
 
 use events::EventSet;
 
-// The entry of the pair (f, c): of each set the events that an entry has room for.
+// The events of a set that an entry has room for.
+#[tactic(auto, using(crate::proofs::Entries::narrow_is))]
+fn narrow(s: EventSet) -> EventSet
+    ensures { result ≡ narrow s }
+{
+    s & EventSet::full(16)
+}
+
+/// The entry of the pair (f, c): of each set the events that an entry has room for.
+// By hand: an entry is a number in lent areas, F × 65536 + C, so it is made of the numbers of its sets.
+#[tactic(auto, using(crate::proofs::Entries::narrow_below), unfolding(network::specs::Lists::pack))]
 pub fn entry_of(f: EventSet, c: EventSet) -> u32
-    ensures { result ≡ pack (narrow f.bits) (narrow c.bits) }
+    ensures { result ≡ pack (narrow f) (narrow c) }
 {
-    let room = EventSet::full(16);
-    let high = f.intersection(room);
-    let low = c.intersection(room);
-    high.bits * 65536 + low.bits
+    narrow(f).bits() * 65536 + narrow(c).bits()
 }
 
-// The two sets of an entry.
+/// The first set of an entry.
+#[tactic(auto, unfolding(network::specs::Lists::first_of))]
 pub fn first_of(x: u32) -> EventSet
-    ensures { result.bits ≡ first_of x }
+    ensures { result ≡ first_of x }
 {
-    EventSet { bits: x / 65536 }
+    EventSet::from_bits(x / 65536)
 }
 
+// The second set of an entry.
+#[tactic(auto, unfolding(network::specs::Lists::second_of))]
 fn second_of(x: u32) -> EventSet
-    ensures { result.bits ≡ second_of x }
+    ensures { result ≡ second_of x }
 {
-    EventSet { bits: x % 65536 }
+    EventSet::from_bits(x % 65536)
 }
 
-// What is offered to a list: an entry, if it is to be kept.
+/// What is offered to a list: an entry, if it is to be kept.
+// By hand: no Option, since the clauses of `together` and `alone` say the entry also where it is not kept.
 #[derive(Clone, Copy)]
 pub struct Candidate {
     pub kept: bool,
@@ -43,74 +54,73 @@ pub struct Candidate {
 
 // C of a join's clause (a).
 fn joined_c(c1: EventSet, c2: EventSet, a: EventSet) -> EventSet
-    ensures { result.bits ≡ joined_c room a.bits c1.bits c2.bits }
+    ensures { result ≡ joined_c room a c1 c2 }
 {
-    let within = c1.intersection(a).union(c2.intersection(a));
-    let outside = c1.difference(a).intersection(c2.difference(a));
-    within.union(outside)
+    let within = (c1 & a) | (c2 & a);
+    let outside = (c1 - a) & (c2 - a);
+    within | outside
 }
 
-// A join's clause (a): what a left entry x and a right entry y yield together.
+/// A join's clause (a): what a left entry x and a right entry y yield together.
 pub fn together(x: u32, y: u32, a: EventSet) -> Candidate
-    ensures { Together a.bits x y result.kept result.entry }
+    ensures { Together a x y result.kept result.entry }
 {
-    let f = first_of(x).union(first_of(y));
+    let f = first_of(x) | first_of(y);
     let c = joined_c(second_of(x), second_of(y), a);
-    let z = entry_of(f, c);
     Candidate {
-        kept: first_of(z).is_disjoint(second_of(z)),
-        entry: z,
+        kept: f.is_disjoint(c),
+        entry: entry_of(f, c),
     }
 }
 
-// A join's clauses (b) and (c): what an entry of one side yields alone.
+/// A join's clauses (b) and (c): what an entry of one side yields alone.
+#[tactic(auto, using(crate::proofs::Candidates::alone_in))]
 pub fn alone(x: u32, a: EventSet) -> Candidate
-    ensures { Alone a.bits x result.kept result.entry }
+    ensures { Alone a x result.kept result.entry }
 {
-    let f = first_of(x);
     Candidate {
-        kept: f.is_disjoint(a),
+        kept: first_of(x).is_disjoint(a),
         entry: x,
     }
 }
 
-// What an operand's entry yields at a hide of a.
+/// What an operand's entry yields at a hide of a.
+#[tactic(auto, using(crate::proofs::Candidates::hidden_is))]
 pub fn hidden(x: u32, a: EventSet) -> u32
-    ensures { result ≡ hide_candidate width a.bits x }
+    ensures { result ≡ hide_candidate width a x }
 {
-    let f = first_of(x);
-    let c = second_of(x);
-    entry_of(f.difference(a), c.union(a))
+    entry_of(first_of(x) - a, second_of(x) | a)
 }
 
 // The image of a set of events: the targets of its events below 16.
+#[tactic(auto, using(crate::proofs::Images::sent_steps))]
 fn image_of(s: EventSet, targets: [u32; 16]) -> EventSet
-    ensures { result.bits ≡ image width (sends targets) s.bits }
+    ensures { result ≡ image width (sends targets) s }
 {
-    let mut r = EventSet::EMPTY;
-    let mut e: u32 = 0;
-    while e < 16 {
-        if s.contains(e) {
-            let t = EventSet::single(targets[e as usize]);
-            r = r.union(t);
+    let mut image = EventSet::EMPTY;
+    for (e, target) in targets.iter().enumerate() {
+        if s.contains(e as u32) {
+            image = image | EventSet::single(*target);
         }
-        e += 1;
     }
-    r.intersection(EventSet::full(16))
+    narrow(image)
 }
 
 // The events below 16 all of whose sources lie in the set: those that no event outside it is sent to.
+#[tactic(auto, using(crate::proofs::Images::all_sources_is))]
 fn all_sources(s: EventSet, targets: [u32; 16]) -> EventSet
-    ensures { result.bits ≡ all_sources width (sends targets) s.bits }
+    ensures { result ≡ all_sources width (sends targets) s }
 {
     image_of(s.complement(16), targets).complement(16)
 }
 
-// What an operand's entry yields at a rename.
+/// What an operand's entry yields at a rename.
+#[tactic(auto, using(crate::proofs::Images::renamed_is))]
 pub fn renamed(x: u32, targets: [u32; 16]) -> u32
     ensures { result ≡ rename_candidate width targets x }
 {
-    let f = first_of(x);
-    let c = second_of(x);
-    entry_of(image_of(f, targets), all_sources(c, targets))
+    entry_of(
+        image_of(first_of(x), targets),
+        all_sources(second_of(x), targets),
+    )
 }

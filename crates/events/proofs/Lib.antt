@@ -1,7 +1,8 @@
 pub mod Booleans
 pub mod Members
+pub mod Machine
 pub mod Operations
 pub mod Tests
-pub mod Machine
 pub mod Widths
+pub mod Laws
 pub mod Unique

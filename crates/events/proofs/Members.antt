@@ -1,10 +1,9 @@
 -- A set is known by its members, and a comprehension `set_of n p` has just the events below n that pass p.
 -- Every law is over n. Assumes nothing.
-use Rattle.std.proofs.Common.{◌≡◌, refl, sym, ap₂, ◌∙◌, Bool, true, false, not, ◌||◌, true≢false, ◌≢◌, ◌⊎◌, inl}
-use Rattle.std.proofs.Common.{inr, ℕ, zero, suc, ◌+◌, ◌*◌, ◌/◌, ◌%◌, ◌^◌, ◌<◌, arith, not-suc-le-zero}
-use Rattle.std.proofs.Common.{le_of_suc-le-suc, T, eqb, eq-eqb, ne_eqb}
-use mathlib.Core.Bool.{false≢true}
-use native.Mathlib.Decide.{ℕ_discrete}
+use Rattle.std.proofs.Common.{◌≡◌, refl, sym, ap₂, Bool, true, false, not, ◌||◌, ◌&&◌, ◌≢◌, inl, inr}
+use Rattle.std.proofs.Common.{ℕ, zero, suc, ◌+◌, ◌*◌, ◌/◌, ◌%◌, ◌^◌, ◌<◌, arith, rules, not-suc-le-zero}
+use Rattle.std.proofs.Common.{le_of_suc-le-suc, T, eqb, ltb, eq-eqb, ne_eqb, lt-ltb, le-ltb}
+use Rattle.std.proofs.lemmas.Bool.{cases_lt, cases_eq}
 use mir.Facts.{or_yes}
 use Rattle.events.specs.Sets.{has, digit, set_of, any_below, is_empty}
 use Rattle.events.proofs.Booleans.{or_left, or_right, same_test}
@@ -18,12 +17,10 @@ digit_half true r = omega arith
 digit_half false r = omega arith
 
 digit_test : (b : Bool) → eqb (digit b) 1 ≡ b
-digit_test true = refl
-digit_test false = refl
+digit_test = search rules
 
 digit_lt : (b : Bool) → digit b < 2
-digit_lt true = omega arith
-digit_lt false = omega arith
+digit_lt = search rules
 
 pub set_of_has : (n : ℕ) (p : ℕ → Bool) (e : ℕ) → e < n → has (set_of n p) e ≡ p e
 unfolding has set_of
@@ -57,19 +54,16 @@ pub member_below : (n s e : ℕ) → s < 2 ^ n → T (has s e) → e < n
 unfolding has
 member_below zero s e l h = absurd (member_nonzero s e h (omega arith))
 member_below (suc n) s zero l h = omega arith
-member_below (suc n) s (suc e) l h = let r = member_below n (s / 2) e (omega arith) h in omega arith
+member_below (suc n) s (suc e) l h = omega (arith, member_below n (s / 2) e (omega arith) h)
 
 member_found : (n s : ℕ) → s < 2 ^ n → s ≢ 0 → (e : ℕ) × T (has s e)
 unfolding has
 member_found zero s l z = absurd (z (omega arith))
-member_found (suc n) s l z = step (eqb (s % 2) 1) refl (member_found n (s / 2) (omega arith))
-  where
-    step : (b : Bool) → eqb (s % 2) 1 ≡ b → ((s / 2 ≡ 0 → ⊥) → (e : ℕ) × T (has (s / 2) e)) → (e : ℕ) × T (has s e)
-    step true q ih = (zero, rw q tt)
-    step false q ih =
-        let ne : s % 2 ≢ 1 = λ r. true≢false (rw r at q) in
-        let r = ih (λ h. z (omega arith)) in
-        (suc r.0, r.1)
+member_found (suc n) s l z =
+    elim (cases_eq (s % 2) 1) [
+      | inl q ↦ (zero, rw q tt)
+      | inr q ↦ let r = member_found n (s / 2) (omega arith) (λ h. z (omega arith)) in (suc r.0, r.1)
+    ]
 
 below_pow : (k : ℕ) → k < 2 ^ k
 below_pow zero = omega arith
@@ -81,55 +75,56 @@ nonzero_member s z = member_found s s (below_pow s) z
 -- a set all of whose members are below n is below 2 ^ n
 pub below_of_members : (n s : ℕ) → ((e : ℕ) → T (has s e) → e < n) → s < 2 ^ n
 unfolding has
-below_of_members zero s h = step (ℕ_discrete s 0)
-  where
-    step : Dec (s ≡ 0) → s < 1
-    step (yes q) = omega arith
-    step (no q) = let r = nonzero_member s q in absurd (omega (arith, h r.0 r.1))
-below_of_members (suc n) s h = omega (arith, below_of_members n (s / 2) (λ e t. let r = h (suc e) t in omega arith))
+below_of_members zero s h =
+    elim (cases_eq s 0) [
+      | inl q ↦ omega arith
+      | inr q ↦ let r = nonzero_member s q in absurd (omega (arith, h r.0 r.1))
+    ]
+below_of_members (suc n) s h = omega (arith, below_of_members n (s / 2) (λ e t. omega (arith, h (suc e) t)))
 
--- a member of a comprehension is below n and passes the test, and the other way round
+-- the members of a comprehension: the events below n that pass its test
+pub set_of_members : (n : ℕ) (p : ℕ → Bool) (e : ℕ) → has (set_of n p) e ≡ (ltb e n && p e)
+set_of_members n p e =
+    elim (cases_lt e n) [
+      | inl l ↦ rw (lt-ltb e n l) (set_of_has n p e l)
+      | inr l ↦
+          rw (le-ltb e n l)
+          (same_test _ _ (λ t. omega (arith, member_below n _ e (set_of_below n p) t)) (λ t. absurd t))
+    ]
+
 pub set_of_out : (n : ℕ) (p : ℕ → Bool) (e : ℕ) → T (has (set_of n p) e) → T (p e)
 set_of_out n p e h = rw (set_of_has n p e (member_below n (set_of n p) e (set_of_below n p) h)) at h
 
 pub set_of_in : (n : ℕ) (p : ℕ → Bool) (e : ℕ) → e < n → T (p e) → T (has (set_of n p) e)
 set_of_in n p e l h = rw (set_of_has n p e l) h
 
--- a comprehension is empty if nothing passes its test, and has a member if it is not empty
+-- a comprehension is empty if nothing passes its test
 pub set_of_empty : (n : ℕ) (p : ℕ → Bool) → ((e : ℕ) → e < n → T (p e) → ⊥) → set_of n p ≡ 0
-unfolding set_of
-set_of_empty zero p h = refl
-set_of_empty (suc n) p h =
-    step (p zero) (h zero (omega arith)) (set_of_empty n (λ e. p (suc e)) (λ e l. h (suc e) (omega arith)))
-  where
-    step : (b : Bool) → (T b → ⊥) → set_of n (λ e. p (suc e)) ≡ 0 → digit b + 2 * set_of n (λ e. p (suc e)) ≡ 0
-    step true g ih = absurd (g tt)
-    step false g ih = omega arith
-
-pub set_of_member : (n : ℕ) (p : ℕ → Bool) → set_of n p ≢ 0 → (e : ℕ) × (e < n) × T (p e)
-set_of_member n p z =
-    let r = nonzero_member (set_of n p) z in
-    (r.0, member_below n (set_of n p) r.0 (set_of_below n p) r.1, set_of_out n p r.0 r.1)
+set_of_empty n p h =
+    elim (cases_eq (set_of n p) 0) [
+      | inl q ↦ q
+      | inr q ↦ let r = nonzero_member (set_of n p) q in
+          absurd (h r.0 (member_below n (set_of n p) r.0 (set_of_below n p) r.1) (set_of_out n p r.0 r.1))
+    ]
 
 -- the test whether some event below n passes
 pub any_in : (n : ℕ) (p : ℕ → Bool) (e : ℕ) → e < n → T (p e) → T (any_below n p)
 unfolding any_below
 any_in zero p e l h = absurd (not-suc-le-zero l)
-any_in (suc n) p e l h = step (ℕ_discrete e n) (any_in n p e)
-  where
-    step : Dec (e ≡ n) → (e < n → T (p e) → T (any_below n p)) → T (p n || any_below n p)
-    step (yes q) ih = or_left (p n) (any_below n p) (rw q at h)
-    step (no q) ih = or_right (p n) (any_below n p) (ih (omega arith) h)
+any_in (suc n) p e l h =
+    elim (cases_eq e n) [
+      | inl q ↦ or_left (p n) (any_below n p) (rw q at h)
+      | inr q ↦ or_right (p n) (any_below n p) (any_in n p e (omega arith) h)
+    ]
 
 pub any_out : (n : ℕ) (p : ℕ → Bool) → T (any_below n p) → (e : ℕ) × (e < n) × T (p e)
 unfolding any_below
 any_out zero p t = absurd t
-any_out (suc n) p t = step (or_yes (p n) (any_below n p) t) (any_out n p)
-  where
-    step : T (p n) ⊎ T (any_below n p) → (T (any_below n p) → (e : ℕ) × (e < n) × T (p e))
-        → (e : ℕ) × (e < suc n) × T (p e)
-    step (inl h) ih = (n, omega arith, h)
-    step (inr h) ih = let r = ih h in (r.0, omega arith, r.2)
+any_out (suc n) p t =
+    elim (or_yes (p n) (any_below n p) t) [
+      | inl h ↦ (n, omega arith, h)
+      | inr h ↦ let r = any_out n p h in (r.0, omega arith, r.2)
+    ]
 
 pub any_none : (n : ℕ) (p : ℕ → Bool) → ((e : ℕ) → e < n → p e ≡ false) → any_below n p ≡ false
 unfolding any_below
@@ -153,13 +148,7 @@ empty_is n p = step (any_below n p) refl
 
 -- two digits that test alike are equal
 same_digit : (x y : ℕ) → x < 2 → y < 2 → eqb x 1 ≡ eqb y 1 → x ≡ y
-same_digit x y hx hy q = step (ℕ_discrete x 1) (ℕ_discrete y 1)
-  where
-    step : Dec (x ≡ 1) → Dec (y ≡ 1) → x ≡ y
-    step (yes p) (yes r) = p ∙ sym r
-    step (yes p) (no r) = let z : y ≡ 0 = omega arith in absurd (true≢false (rw (p, z) at q))
-    step (no p) (yes r) = let z : x ≡ 0 = omega arith in absurd (false≢true (rw (z, r) at q))
-    step (no p) (no r) = omega arith
+same_digit x y hx hy q = grind arith
 
 -- extensionality: a set below 2 ^ n is known by its members
 pub has_ext : (n s t : ℕ) → s < 2 ^ n → t < 2 ^ n → ((e : ℕ) → e < n → has s e ≡ has t e) → s ≡ t

@@ -1,12 +1,14 @@
 -- What each operation on sets has as its members, over n.
 -- Assumes nothing.
-use Rattle.std.proofs.Common.{◌≡◌, refl, Bool, true, false, not, ◌&&◌, ◌||◌, ◌≢◌, ◌⊎◌, ⊎_elim, ℕ, ◌<◌, T, T_not}
+use Rattle.std.proofs.Common.{◌≡◌, Bool, true, not, ◌&&◌, ◌||◌, ◌⊎◌, ⊎_elim, inl, inr, ℕ, ◌<◌, T, T_not}
+use Rattle.std.proofs.lemmas.Bool.{cases_Bool}
 use lib.Dec.{not_T}
 use mir.Facts.{and_yes, yes_and, or_yes}
 use Rattle.events.specs.Sets.{has, any_below, empty, full, union, intersection, difference, complement}
 use Rattle.events.specs.Sets.{image, all_sources, Included}
 use Rattle.events.proofs.Booleans.{or_left, or_right}
-use Rattle.events.proofs.Members.{set_of_out, set_of_in, set_of_empty, set_of_member, any_in, any_out}
+use Rattle.events.proofs.Members.{set_of_out, set_of_in, set_of_empty, any_in, any_out}
+use Rattle.events.proofs.Machine.{has_empty}
 
 pub included_refl : (s : ℕ) → Included s s
 unfolding Included
@@ -44,24 +46,13 @@ complement_out n s e h = (difference_out n (full n) s e h).1
 pub complement_in : (n s e : ℕ) → e < n → (T (has s e) → ⊥) → T (has (complement n s) e)
 complement_in n s e l h = difference_in n (full n) s e l (full_in n e l) h
 
--- s ∩ t is empty exactly if no event below n is in both; s − t exactly if every event of s below n is in t
+-- s ∩ t is empty exactly if no event below n is in both
 pub intersection_empty_in : (n s t : ℕ) → ((e : ℕ) → e < n → T (has s e) → T (has t e) → ⊥) → intersection n s t ≡ empty
 intersection_empty_in n s t h =
     set_of_empty n (λ e. has s e && has t e) (λ e l g. let r = and_yes (has s e) (has t e) g in h e l r.0 r.1)
 
 pub intersection_empty_out : (n s t : ℕ) → intersection n s t ≡ empty → (e : ℕ) → e < n → T (has s e) → T (has t e) → ⊥
-unfolding has
-intersection_empty_out n s t q e l h k = no_member e (rw q at (intersection_in n s t e l h k))
-  where
-    no_member : (e : ℕ) → T (has 0 e) → ⊥
-    no_member Prim.Native.Nat.zero g = g
-    no_member (Prim.Native.Nat.suc e) g = no_member e g
-
-pub difference_member : (n s t : ℕ) → difference n s t ≢ empty → (e : ℕ) × (e < n) × T (has s e) × (T (has t e) → ⊥)
-difference_member n s t z =
-    let r = set_of_member n (λ e. has s e && not (has t e)) z in
-    let g = and_yes (has s r.0) (not (has t r.0)) r.2 in
-    (r.0, r.1, g.0, T_not (has t r.0) g.1)
+intersection_empty_out n s t q e l h k = rw (q, has_empty e) at (intersection_in n s t e l h k)
 
 module _ (n : ℕ) (R : ℕ → ℕ → Bool) (s b : ℕ) where
   pub image_out : T (has (image n R s) b) → (e : ℕ) × (e < n) × T (has s e) × T (R e b)
@@ -76,16 +67,13 @@ module _ (n : ℕ) (R : ℕ → ℕ → Bool) (s b : ℕ) where
       (any_in n (λ e. has s e && R e b) e i (yes_and (has s e) (R e b) h k))
 
   pub all_sources_out : T (has (all_sources n R s) b) → (e : ℕ) → e < n → T (R e b) → T (has s e)
-  all_sources_out h e i k = step (has s e) refl
-    where
-      bad : ℕ → Bool
-      bad e = R e b && not (has s e)
-
-      step : (c : Bool) → has s e ≡ c → T c
-      step true q = tt
-      step false q =
-          T_not (any_below n bad) (set_of_out n (λ b. not (any_below n (λ e. R e b && not (has s e)))) b h)
-          (any_in n bad e i (yes_and (R e b) (not (has s e)) k (rw q tt)))
+  all_sources_out h e i k =
+      elim (cases_Bool (has s e)) [
+        | inl q ↦ rw q tt
+        | inr q ↦ absurd (T_not (any_below n (λ e. R e b && not (has s e)))
+            (set_of_out n (λ b. not (any_below n (λ e. R e b && not (has s e)))) b h)
+            (any_in n (λ e. R e b && not (has s e)) e i (yes_and (R e b) (not (has s e)) k (rw q tt))))
+      ]
 
   pub all_sources_in : b < n → ((e : ℕ) → e < n → T (R e b) → T (has s e)) → T (has (all_sources n R s) b)
   all_sources_in l h =

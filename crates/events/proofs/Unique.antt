@@ -7,6 +7,12 @@ use Rattle.events.specs.Sets.{disjoint, included, is_empty, count}
 pub settled : {A : Type 0} {x r r' : A} → r ≡ x → r' ≡ x → r ≡ r'
 settled p q = p ∙ sym q
 
+pub from_bits_unique : (bits r r' : ℕ) → r ≡ bits → r' ≡ bits → r ≡ r'
+from_bits_unique bits r r' p q = settled p q
+
+pub bits_unique : (s r r' : ℕ) → r ≡ s → r' ≡ s → r ≡ r'
+bits_unique s r r' p q = settled p q
+
 pub full_unique : (n r r' : ℕ) → r ≡ full (min n room) → r' ≡ full (min n room) → r ≡ r'
 full_unique n r r' p q = settled p q
 

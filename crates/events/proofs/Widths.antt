@@ -1,12 +1,12 @@
 -- On sets of n events an operation with room for k events, k at least n, gives what it gives with room for n.
 -- Assumes nothing.
 use Rattle.std.proofs.Common.{◌≡◌, sym, ap, ◌∙◌, Bool, false, not, ◌&&◌, ◌||◌, ℕ, zero, suc, ◌+◌, ◌*◌, ◌^◌, ◌<◌}
-use Rattle.std.proofs.Common.{◌≤◌, zero-le, arith, not-suc-le-zero, le_of_suc-le-suc, eqb, pow_mono}
-use native.Mathlib.Decide.{ℕ_discrete}
-use Rattle.events.specs.Sets.{has, digit, set_of, any_below, single, union, intersection, difference}
+use Rattle.std.proofs.Common.{◌≤◌, inl, inr, zero-le, arith, not-suc-le-zero, le_of_suc-le-suc, eqb, pow_mono}
+use Rattle.std.proofs.lemmas.Bool.{cases_eq}
+use Rattle.events.specs.Sets.{has, digit, set_of, any_below, union, intersection, difference}
 use Rattle.events.specs.Sets.{disjoint, included, count}
 use Rattle.events.proofs.Members.{set_of_empty}
-use Rattle.events.proofs.Machine.{has_beyond, single_is, count_is}
+use Rattle.events.proofs.Machine.{has_beyond, count_is}
 
 pub set_of_widen : (n k : ℕ) (p : ℕ → Bool) → n ≤ k → ((e : ℕ) → n ≤ e → e < k → p e ≡ false) → set_of k p ≡ set_of n p
 unfolding set_of
@@ -16,18 +16,15 @@ set_of_widen (suc n) (suc k) p h q =
     ap (λ (x : ℕ). digit (p zero) + 2 * x)
     (set_of_widen n k (λ e. p (suc e)) (le_of_suc-le-suc h) (λ e i j. q (suc e) (omega arith) (omega arith)))
 
-pub any_widen : (n k : ℕ) (p : ℕ → Bool) → n ≤ k → ((e : ℕ) → n ≤ e → e < k → p e ≡ false) → any_below k p ≡ any_below n p
+pub any_widen : (n k : ℕ) (p : ℕ → Bool) → n ≤ k → ((e : ℕ) → n ≤ e → e < k → p e ≡ false)
+    → any_below k p ≡ any_below n p
 unfolding any_below
 any_widen n zero p h q = let z : n ≡ 0 = omega arith in rw z
-any_widen n (suc k) p h q = step (ℕ_discrete n (suc k)) (any_widen n k p)
-  where
-    step : Dec (n ≡ suc k) → (n ≤ k → ((e : ℕ) → n ≤ e → e < k → p e ≡ false) → any_below k p ≡ any_below n p)
-        → (p k || any_below k p) ≡ any_below n p
-    step (yes z) ih = rw z
-    step (no z) ih = rw (q k (omega arith) (omega arith)) (ih (omega arith) (λ e i j. q e i (omega arith)))
-
-pub single_widen : (n k d : ℕ) → n ≤ k → d < n → single k d ≡ single n d
-single_widen n k d h l = single_is k d (omega arith) ∙ sym (single_is n d l)
+any_widen n (suc k) p h q =
+    elim (cases_eq n (suc k)) [
+      | inl z ↦ rw z
+      | inr z ↦ rw (q k (omega arith) (omega arith)) (any_widen n k p (omega arith) (λ e i j. q e i (omega arith)))
+    ]
 
 module _ (n k s t : ℕ) (h : n ≤ k) (hs : s < 2 ^ n) where
   pub union_widen : t < 2 ^ n → union k s t ≡ union n s t

@@ -1,16 +1,16 @@
 -- The list that is built of candidates is their list in order, or is over exactly if that has more than 256 entries; so
 -- the order in which candidates come does not matter. Assumes nothing.
-use Rattle.std.proofs.Common.{◌≡◌, refl, sym, ap, ◌∙◌, Bool, true, false, cond, true≢false, List, [], ◌∷◌, ◌++◌}
+use Rattle.std.proofs.Common.{◌≡◌, refl, sym, ap, ◌∙◌, true, false, true≢false, List, [], ◌∷◌, ◌++◌, inl, inr}
 use Rattle.std.proofs.Common.{ℕ, ◌≤◌, ◌<◌, arith, leb, ltb, le-leb, leb-true, lt-ltb, le-ltb, ltb-false, length}
-use native.Mathlib.Decide.{dec_le}
+use Rattle.std.proofs.lemmas.Bool.{cases_Bool, cases_lt}
 use Rattle.network.specs.Lists.{insert_at, insert_all, in_order}
 use Rattle.network.specs.Verdict.{most_pairs}
 use Rattle.network.proofs.Sorting.{Mem, insert_all_longer, in_order_out, in_order_in, in_order_ascending, ascending_ext}
-use Rattle.filling.specs.Building.{Filling, fits, over, pairs_of, went_over, offer, offer_all, filled, padded, Made}
-use Rattle.filling.specs.Building.{Gives}
+use Rattle.filling.specs.Building.{Filling, fits, over, pairs_of, went_over, offer, offer_all, filled, Gives}
 use Rattle.filling.proofs.Loops.{over_stays, offer_append}
 
-offer_fits : (ys cs : List ℕ) → length (insert_all ys cs) ≤ most_pairs → offer_all (fits ys) cs ≡ fits (insert_all ys cs)
+offer_fits : (ys cs : List ℕ) → length (insert_all ys cs) ≤ most_pairs
+    → offer_all (fits ys) cs ≡ fits (insert_all ys cs)
 unfolding insert_all offer_all offer
 offer_fits ys [] h = refl
 offer_fits ys (x ∷ cs) h =
@@ -22,14 +22,11 @@ offer_over : (ys cs : List ℕ) → length ys ≤ most_pairs → most_pairs < le
     → went_over (offer_all (fits ys) cs) ≡ true
 unfolding insert_all offer_all offer went_over
 offer_over ys [] k h = absurd (omega arith)
-offer_over ys (x ∷ cs) k h = step (leb (length (insert_at x ys)) most_pairs) refl (offer_over (insert_at x ys) cs)
-  where
-    step : (b : Bool) → leb (length (insert_at x ys)) most_pairs ≡ b
-        → (length (insert_at x ys) ≤ most_pairs → most_pairs < length (insert_all (insert_at x ys) cs)
-        → went_over (offer_all (fits (insert_at x ys)) cs) ≡ true)
-        → went_over (offer_all (cond b (fits (insert_at x ys)) (over ys)) cs) ≡ true
-    step true e ih = ih (leb-true (length (insert_at x ys)) most_pairs e) h
-    step false e ih = ap went_over (over_stays ys cs)
+offer_over ys (x ∷ cs) k h =
+    elim (cases_Bool (leb (length (insert_at x ys)) most_pairs)) [
+      | inl e ↦ rw e (offer_over (insert_at x ys) cs (leb-true (length (insert_at x ys)) most_pairs e) h)
+      | inr e ↦ rw (e, over_stays ys cs) refl
+    ]
 
 pub filled_fits : (cs : List ℕ) → length (in_order cs) ≤ most_pairs → filled cs ≡ fits (in_order cs)
 unfolding filled in_order
@@ -37,30 +34,20 @@ filled_fits cs h = offer_fits [] cs h
 
 pub filled_over_is : (cs : List ℕ) → went_over (filled cs) ≡ ltb most_pairs (length (in_order cs))
 unfolding filled in_order went_over
-filled_over_is cs = step (dec_le (length (in_order cs)) most_pairs)
-  where
-    step : Dec (length (in_order cs) ≤ most_pairs) → went_over (filled cs) ≡ ltb most_pairs (length (in_order cs))
-    step (yes h) = ap went_over (filled_fits cs h) ∙ sym (le-ltb most_pairs (length (in_order cs)) h)
-    step (no h) =
-        offer_over [] cs (omega arith) (omega arith) ∙ sym (lt-ltb most_pairs (length (in_order cs)) (omega arith))
+filled_over_is cs =
+    elim (cases_lt most_pairs (length (in_order cs))) [
+      | inl h ↦ offer_over [] cs (omega arith) h ∙ sym (lt-ltb most_pairs (length (in_order cs)) h)
+      | inr h ↦ rw (filled_fits cs h, le-ltb most_pairs (length (in_order cs)) h) refl
+    ]
 
 -- what is not over is the list in order
 pub filled_is : (cs : List ℕ) → went_over (filled cs) ≡ false → filled cs ≡ fits (in_order cs)
 filled_is cs h = filled_fits cs (ltb-false most_pairs (length (in_order cs)) (sym (filled_over_is cs) ∙ h))
 
--- what the code answers for candidates gives their list
-pub made_gives : (cs : List ℕ) (count : ℕ) (b : Bool) (entries : List ℕ) → Made (filled cs) count b entries
-    → Gives (in_order cs) count b entries
+-- the list that is built of candidates is theirs in order
+pub filled_gives : (cs : List ℕ) → Gives (in_order cs) (filled cs)
 unfolding pairs_of
-made_gives cs count b entries m =
-    record {
-      over_exactly = m.over_is ∙ filled_over_is cs;
-      count_is = λ h. m.count_is ∙ ap (λ (f : Filling). length (pairs_of f)) (same h);
-      entries_are = λ h. m.entries_are ∙ ap (λ (f : Filling). padded (pairs_of f)) (same h);
-    }
-  where
-    same : b ≡ false → filled cs ≡ fits (in_order cs)
-    same h = filled_is cs (sym m.over_is ∙ h)
+filled_gives cs = record { over_exactly = filled_over_is cs; pairs_are = λ h. ap pairs_of (filled_is cs h) }
 
 -- a list that is over stays over, so stopping early is right
 pub filled_stays : (cs ds : List ℕ) → went_over (filled cs) ≡ true → filled (cs ++ ds) ≡ filled cs

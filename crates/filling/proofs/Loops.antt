@@ -1,15 +1,14 @@
--- Loops that offer one candidate after another: what is still to be offered, offered to what the array holds, gives
--- what is wanted. Every list operation's loop has this invariant. Assumes nothing.
-use Rattle.std.proofs.Common.{◌≡◌, refl, sym, ap, ◌∙◌, subst, Bool, true, false, List, [], ◌∷◌, ◌++◌, map, ℕ}
-use Rattle.std.proofs.Common.{◌+◌, ◌≤◌, ◌<◌, add-one, arith, length, take, drop, get_or, replicate}
-use Rattle.std.proofs.Common.{drop_of_length-le, drop-cons}
+-- Loops that offer one candidate after another to a collector: what is still to be offered, offered to what it is now,
+-- gives what is wanted. Every loop has this invariant. Assumes nothing.
+use Rattle.std.proofs.Common.{◌≡◌, refl, sym, ◌∙◌, Bool, true, List, [], ◌∷◌, ◌++◌, ℕ}
+use Rattle.std.proofs.Common.{◌+◌, ◌≤◌, ◌<◌, add-one, arith, length, drop, get_or, drop_of_length-le, drop-cons}
+use Rattle.std.proofs.Common.{append_assoc}
+use Rattle.std.specs.Prelude.{fold}
+use Rattle.std.proofs.lemmas.List.Sums.{fold-append}
+use Rattle.std.proofs.lemmas.List.Folds.{fold_stays}
 use mathlib.Core.List.{flat_map}
-use lib.ListN.{length-replicate}
-use Rattle.network.specs.Lists.{keep_if, together_candidate, alone_candidate, join_candidates, Ascending}
-use Rattle.network.specs.Verdict.{most_pairs}
-use Rattle.filling.specs.Building.{Filling, over, state_of, offer, offer_all, filled, zeros}
-use Rattle.filling.specs.Building.{padded, Held, Made}
-use Rattle.filling.proofs.Fillings.{all_sound, held_sound, held_made, made_held}
+use Rattle.filling.specs.Collecting.{StaysOnceOver}
+use Rattle.filling.specs.Building.{Filling, fits, over, offer, offer_all, filled}
 
 -- over stays over; one list of candidates behind another
 pub over_stays : (xs cs : List ℕ) → offer_all (over xs) cs ≡ over xs
@@ -22,46 +21,20 @@ unfolding offer_all
 offer_append f [] ds = refl
 offer_append f (x ∷ cs) ds = offer_append (offer f x) cs ds
 
--- the rest of the candidates makes the whole of what count, over and array hold
-pub record Going (whole : Filling) (rest : List ℕ) (count : ℕ) (is_over_now : Bool) (entries : List ℕ) : Type 0 where
-  pub held : Held count entries
-  pub goes : offer_all (state_of is_over_now (take count entries)) rest ≡ whole
-
-pub going_start : (b : Bool) (n : ℕ) (xs cs : List ℕ) → Held n xs
-    → Going (offer_all (state_of b (take n xs)) cs) cs n b xs
-going_start b n xs cs w = record { held = w; goes = refl }
-
-module _ {whole : Filling} {n m : ℕ} {b d : Bool} {xs ys : List ℕ} where
-  -- the candidates cs have been offered
-  pub going_on : (cs rest : List ℕ) → Going whole (cs ++ rest) n b xs
-      → Made (offer_all (state_of b (take n xs)) cs) m d ys
-      → Going whole rest m d ys
-  going_on cs rest g h =
-      let f = state_of b (take n xs) in
-      let q = made_held (all_sound f cs (held_sound b g.held)) h in
-      record {
-        held = q.0;
-        goes = ap (λ (u : Filling). offer_all u rest) (sym q.1) ∙ sym (offer_append f cs rest) ∙ g.goes;
-      }
-
-  -- they were the last
-  pub going_last : (cs : List ℕ) → Going whole cs n b xs → Made (offer_all (state_of b (take n xs)) cs) m d ys
-      → Made whole m d ys
-  going_last cs g h = subst (λ (u : Filling). Made u m d ys) g.goes h
-
--- nothing is left, or the list is over
-pub going_end : {whole : Filling} {n : ℕ} {b : Bool} {xs : List ℕ} → Going whole [] n b xs → Made whole n b xs
+-- a run of offers to a list
+pub fold_offer : (f : Filling) (cs : List ℕ) → fold offer f cs ≡ offer_all f cs
 unfolding offer_all
-going_end {whole} {n} {b} {xs} g = subst (λ (u : Filling). Made u n b xs) g.goes (held_made b g.held)
+fold_offer f [] = refl
+fold_offer f (x ∷ cs) = fold_offer (offer f x) cs
 
-pub going_over : {whole : Filling} {n : ℕ} {b : Bool} {xs : List ℕ} (rest : List ℕ) → Going whole rest n b xs → b ≡ true
-    → Made whole n b xs
-unfolding state_of
-going_over {whole} {n} {b} {xs} rest g q =
-    let s : state_of b (take n xs) ≡ over (take n xs) = ap (λ (c : Bool). state_of c (take n xs)) q in
-    subst (λ (u : Filling). Made u n b xs)
-    (s ∙ sym (over_stays (take n xs) rest) ∙ ap (λ (u : Filling). offer_all u rest) (sym s) ∙ g.goes)
-    (held_made b g.held)
+pub fold_filled : (cs : List ℕ) → fold offer (fits []) cs ≡ filled cs
+unfolding filled
+fold_filled cs = fold_offer (fits []) cs
+
+-- once over, what is still to be offered changes nothing
+pub stopped : {S : Type 0} {after : S → ℕ → S} {is_over : S → Bool} → StaysOnceOver after is_over → {s whole : S}
+    → (rest : List ℕ) → is_over s ≡ true → fold after s rest ≡ whole → s ≡ whole
+stopped {after = after} stays {s} rest at_end now = sym (fold_stays after s (λ x. stays s x at_end) rest) ∙ now
 
 -- over the entries of a slice: each yields candidates
 gather_step : (f : ℕ → List ℕ) (xs : List ℕ) (i : ℕ) → i < length xs
@@ -69,63 +42,46 @@ gather_step : (f : ℕ → List ℕ) (xs : List ℕ) (i : ℕ) → i < length xs
 unfolding flat_map
 gather_step f xs i h = rw (add-one i, drop-cons xs i 0 h) refl
 
-gather_done : (f : ℕ → List ℕ) (xs : List ℕ) (i : ℕ) → length xs ≤ i → flat_map f (drop i xs) ≡ []
-unfolding flat_map
-gather_done f xs i h = rw (drop_of_length-le xs h) refl
+-- what xs yields from entry i on, and the rest behind it, is still to be offered
+pub record ToOffer {S : Type 0} (after : S → ℕ → S) (s : S) (f : ℕ → List ℕ) (xs : List ℕ) (i : ℕ) (rest : List ℕ)
+    (whole : S) : Type 0 where
+  pub within : i ≤ length xs
+  pub gives : fold after s (flat_map f (drop i xs) ++ rest) ≡ whole
 
-module _ {whole : Filling} (f : ℕ → List ℕ) (xs : List ℕ) (i n : ℕ) {b : Bool} {es : List ℕ}
-    (g : Going whole (flat_map f (drop i xs)) n b es) where
-  pub gather_on : (m : ℕ) (d : Bool) (es' cs : List ℕ) → i < length xs → cs ≡ f (get_or xs i 0)
-      → Made (offer_all (state_of b (take n es)) cs) m d es' → Going whole (flat_map f (drop (i + 1) xs)) m d es'
-  gather_on m d es' cs h e = going_on cs (flat_map f (drop (i + 1) xs)) (rw (gather_step f xs i h, ← e) at g)
+module _ {S : Type 0} {after : S → ℕ → S} {s : S} {f : ℕ → List ℕ} {xs : List ℕ} {i : ℕ} {rest : List ℕ} {whole : S}
+    (now : ToOffer after s f xs i rest whole) where
+  first : i < length xs → fold after s (f (get_or xs i 0) ++ (flat_map f (drop (i + 1) xs) ++ rest)) ≡ whole
+  first h = rw (gather_step f xs i h, append_assoc) at now.gives
 
-  pub gather_end : length xs ≤ i → Made whole n b es
-  gather_end h = going_end (rw (gather_done f xs i h) at g)
+  pub none_left : length xs ≤ i → fold after s rest ≡ whole
+  unfolding flat_map
+  none_left h = rw (drop_of_length-le xs h) at now.gives
 
--- each yields one
-map_step : (f : ℕ → ℕ) (xs : List ℕ) (i : ℕ) → i < length xs
-    → map f (drop i xs) ≡ f (get_or xs i 0) ∷ map f (drop (i + 1) xs)
-map_step f xs i h = rw (add-one i, drop-cons xs i 0 h) refl
+  -- the candidates cs of entry i have been offered
+  pub offered_on : {t : S} {cs : List ℕ} → i < length xs → cs ≡ f (get_or xs i 0) → t ≡ fold after s cs
+      → ToOffer after t f xs (i + 1) rest whole
+  offered_on {cs = cs} h e new =
+      record {
+        within = omega arith;
+        gives = rw new (sym (fold-append after s cs (flat_map f (drop (i + 1) xs) ++ rest)) ∙ (rw (← e) at first h));
+      }
 
-map_done : (f : ℕ → ℕ) (xs : List ℕ) (i : ℕ) → length xs ≤ i → map f (drop i xs) ≡ []
-map_done f xs i h = rw (drop_of_length-le xs h) refl
+  -- those of entry i come by a loop of their own
+  pub offered_within : {g : ℕ → List ℕ} {ys : List ℕ} → i < length xs → f (get_or xs i 0) ≡ flat_map g ys
+      → ToOffer after s g ys 0 (flat_map f (drop (i + 1) xs) ++ rest) whole
+  offered_within h e = record { within = omega arith; gives = rw e at first h }
 
-pub offer_one : (f : Filling) (x : ℕ) → offer f x ≡ offer_all f (x ∷ [])
-unfolding offer_all
-offer_one f x = refl
+  -- none is left of the slice, and there is no rest
+  pub offered_last : length xs ≤ i → rest ≡ [] → s ≡ whole
+  offered_last h e = rw e at none_left h
 
-module _ {whole : Filling} (f : ℕ → ℕ) (xs : List ℕ) (i n : ℕ) {b : Bool} {es : List ℕ}
-    (g : Going whole (map f (drop i xs)) n b es) where
-  pub map_on : (m : ℕ) (d : Bool) (es' : List ℕ) (x : ℕ) → i < length xs → x ≡ f (get_or xs i 0)
-      → Made (offer (state_of b (take n es)) x) m d es' → Going whole (map f (drop (i + 1) xs)) m d es'
-  map_on m d es' x h e made =
-      going_on (x ∷ []) (map f (drop (i + 1) xs)) (rw (map_step f xs i h, ← e) at g)
-      (subst (λ (u : Filling). Made u m d es') (offer_one (state_of b (take n es)) x) made)
+  -- the collector is over
+  pub offered_over : {is_over : S → Bool} → StaysOnceOver after is_over → is_over s ≡ true → s ≡ whole
+  offered_over stays at_end = stopped stays (flat_map f (drop i xs) ++ rest) at_end now.gives
 
-  pub map_end : length xs ≤ i → Made whole n b es
-  map_end h = going_end (rw (map_done f xs i h) at g)
-
--- none, or one
-pub keep_none : (b : Bool) (n : ℕ) (xs : List ℕ) (x : ℕ) → Held n xs
-    → Made (offer_all (state_of b (take n xs)) (keep_if false x)) n b xs
-unfolding offer_all
-keep_none b n xs x w = held_made b w
-
--- a new array
-pub held_new : Held 0 (replicate most_pairs 0)
-unfolding padded zeros Ascending
-held_new =
-    record { count_fits = omega arith; size = length-replicate {A = ℕ} 256 0; ascending = tt; padding = refl }
-
-pub filled_start : (cs : List ℕ) → Going (filled cs) cs 0 false (replicate most_pairs 0)
-unfolding filled state_of
-filled_start cs = record { held = held_new; goes = refl }
-
--- a join's candidates come in three parts
-pub join_start : (n A : ℕ) (xs ys : List ℕ)
-    → Going (filled (join_candidates n A xs ys))
-    (flat_map (λ x. flat_map (together_candidate n A x) ys) xs ++
-    (flat_map (alone_candidate n A) xs ++ flat_map (alone_candidate n A) ys))
-    0 false (replicate most_pairs 0)
-unfolding join_candidates
-join_start n A xs ys = filled_start (join_candidates n A xs ys)
+-- the loop of an entry's own is at its end
+pub offered_back : {S : Type 0} {after : S → ℕ → S} {s : S} {f g : ℕ → List ℕ} {xs ys : List ℕ} {i j : ℕ}
+    {rest : List ℕ} {whole : S}
+    → ToOffer after s g ys j (flat_map f (drop (i + 1) xs) ++ rest) whole → length ys ≤ j → i < length xs
+    → ToOffer after s f xs (i + 1) rest whole
+offered_back now h l = record { within = omega arith; gives = none_left now h }

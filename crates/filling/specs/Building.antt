@@ -1,6 +1,9 @@
 -- A node's list while it is built, under the limit of 256 pairs, and how it stands in an array of 256 entries.
 -- Document 01, refusal 11 and the working area. Assumes nothing.
-use Rattle.std.specs.Prelude.{◌≡◌, Bool, true, false, cond, List, [], ◌∷◌, ◌++◌, ℕ, ◌-◌, ◌+◌, ◌<◌, ◌≤◌, leb, ltb, length, take, drop, get_or, replicate}
+use Rattle.std.specs.Prelude.{◌≡◌, Bool, true, false, cond, List, [], ◌∷◌, ◌++◌, ℕ, ◌-◌, ◌≤◌, leb, ltb, length, take}
+use Rattle.std.specs.Prelude.{drop, replicate}
+use Rattle.std.proofs.Common.{refl, sym, true≢false}
+use Rattle.filling.specs.Collecting.{StaysOnceOver}
 use Rattle.network.specs.Lists.{insert_at, Ascending}
 use Rattle.network.specs.Verdict.{most_pairs}
 
@@ -28,6 +31,12 @@ unfoldable pub offer : Filling → ℕ → Filling
 offer (fits xs) x = cond (leb (length (insert_at x xs)) most_pairs) (fits (insert_at x xs)) (over xs)
 offer (over xs) x = over xs
 
+-- a list that is over stays as it is
+pub stays_over : StaysOnceOver offer went_over
+unfolding offer went_over
+stays_over (fits xs) x h = absurd (true≢false (sym h))
+stays_over (over xs) x h = refl
+
 -- each of the candidates is offered, first to last
 unfoldable pub offer_all : Filling → List ℕ → Filling
 offer_all f [] = f
@@ -51,29 +60,10 @@ pub record Held (count : ℕ) (entries : List ℕ) : Type 0 where
   pub ascending : Ascending (take count entries)
   pub padding : entries ≡ padded (take count entries)
 
--- count, over and array are those of the filling f
-pub record Made (f : Filling) (count : ℕ) (is_over_now : Bool) (entries : List ℕ) : Type 0 where
-  pub count_is : count ≡ length (pairs_of f)
-  pub over_is : is_over_now ≡ went_over f
-  pub entries_are : entries ≡ padded (pairs_of f)
-
--- count, over and array are those of the list xs: over exactly if it has more than 256 pairs; otherwise xs, then zeros
-pub record Gives (xs : List ℕ) (count : ℕ) (is_over_now : Bool) (entries : List ℕ) : Type 0 where
-  pub over_exactly : is_over_now ≡ ltb most_pairs (length xs)
-  pub count_is : is_over_now ≡ false → count ≡ length xs
-  pub entries_are : is_over_now ≡ false → entries ≡ padded xs
-
--- r is where x belongs among the first `count` entries
-pub record Place (x count : ℕ) (entries : List ℕ) (r : ℕ) : Type 0 where
-  pub within : r ≤ count
-  pub below : (k : ℕ) → k < r → get_or entries k 0 < x
-  pub here : r < count → x ≤ get_or entries r 0
-
--- ys is xs with x put in at i, and the entries from i to n one further
-pub record Shifted (i n x : ℕ) (xs ys : List ℕ) : Type 0 where
-  pub length_kept : length ys ≡ length xs
-  pub front : take (n + 1) ys ≡ take i (take n xs) ++ (x ∷ drop i (take n xs))
-  pub back : drop (n + 1) ys ≡ drop (n + 1) xs
+-- the filling f is the list xs, or over exactly if that has more than 256 pairs
+pub record Gives (xs : List ℕ) (f : Filling) : Type 0 where
+  pub over_exactly : went_over f ≡ ltb most_pairs (length xs)
+  pub pairs_are : went_over f ≡ false → pairs_of f ≡ xs
 
 -- the array stored in a section: as much as the section has room for; what the section has behind the array stays
 unfoldable pub stored : List ℕ → List ℕ → List ℕ

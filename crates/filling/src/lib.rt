@@ -1,127 +1,166 @@
-// One node's list while it is filled: sorted insertion into 256 entries, over at a 257th; and its section.
+//! What takes the candidates of a node, one after another; and one node's list while it is filled: sorted insertion
+//! into 256 entries, over at a 257th; and its section.
 #![tactic(auto)]
 
-ghost use Rattle.std.specs.Prelude.{◌≡◌, ◌<◌, ◌≤◌, min, length, take};
+ghost use Rattle.std.specs.Prelude.{◌≡◌, ℕ, Bool, ◌+◌, ◌<◌, ◌≤◌, [], fold, length, take, drop, insert};
 ghost use Rattle.network.specs.Lists.{keep_if};
-ghost use Rattle.filling.specs.Building.{state_of, offer, offer_all, Held, Made, Place, Shifted, stored};
+ghost use Rattle.filling.specs.Collecting.{StaysOnceOver};
+ghost use Rattle.filling.specs.Building.{fits, pairs_of, went_over, stored, padded};
 
 use entries::Candidate;
+use std::marker::Model;
 
-// How many pairs a list under construction has, and whether a 257th was offered to it.
+/// What takes the candidates of a node, one after another.
+pub trait Collector {
+    // What the collector is after one entry more.
+    ghost after: { Self → ℕ → Self };
+
+    ghost is_over: { Self → Bool };
+
+    /// One entry more.
+    fn offer(&mut self, x: u32)
+        ensures { self.new ≡ after self.old x };
+
+    /// Whether no further entry can change the collector.
+    fn is_over(&self) -> bool
+        ensures { result ≡ is_over self.now };
+
+    // What each `impl` must prove.
+    ghost stays: { StaysOnceOver after is_over };
+}
+
+/// The candidate offered, if it is to be kept.
+pub fn offer_candidate<C: Collector>(out: &mut C, c: Candidate)
+    ensures { out.new ≡ fold C.after out.old (keep_if c.kept c.entry) }
+{
+    if c.kept {
+        out.offer(c.entry);
+    }
+}
+
+/// How many pairs a list has, and whether a 257th was offered to it.
+// By hand: no Option, since the clauses of `tally` say the count of a list that is over too.
 #[derive(Clone, Copy)]
 pub struct Tally {
     pub count: usize,
     pub over: bool,
 }
 
-impl Tally {
-    pub const NONE: Tally = Tally {
-        count: 0,
-        over: false,
-    };
-}
-
-// Where x belongs among the first `count` entries, by halves.
-fn place(entries: &[u32; 256], count: usize, x: u32) -> usize
-    requires { Held count entries.now }
-    ensures { Place x count entries.now result }
-{
-    let mut lo = 0;
-    let mut hi = count;
-    while lo < hi {
-        let mid = (lo + hi) / 2;
-        if entries[mid] < x {
-            lo = mid + 1;
-        } else {
-            hi = mid;
-        }
-    }
-    lo
-}
-
-// x at `at`, and what stood from there to `count` one further.
-fn shift(entries: &mut [u32; 256], at: usize, count: usize, x: u32)
-    requires { (at ≤ count) × (count < 256) × (length entries.old ≡ 256) }
-    ensures { Shifted at count x entries.old entries.new }
-{
-    let mut carry = x;
-    let mut k = at;
-    while k < count {
-        let y = entries[k];
-        entries[k] = carry;
-        carry = y;
-        k += 1;
-    }
-    entries[count] = carry;
-}
-
-// x put at its place, unless it is there; over if it would be the 257th. A list that is over stays as it is.
-pub fn insert(entries: &mut [u32; 256], t: Tally, x: u32) -> Tally
-    requires { Held t.count entries.old }
-    ensures { Made (offer (state_of t.over (take t.count entries.old)) x)
-        result.count result.over entries.new }
-{
-    if t.over {
-        return t;
-    }
-    let count = t.count;
-    let at = place(entries, count, x);
-    if at < count {
-        if entries[at] == x {
-            return t;
-        }
-    }
-    if count == 256 {
-        return Tally {
-            count: 256,
-            over: true,
-        };
-    }
-    shift(entries, at, count, x);
-    Tally {
-        count: count + 1,
-        over: false,
-    }
-}
-
-// The candidate offered, if it is to be kept.
-pub fn offer_candidate(entries: &mut [u32; 256], t: Tally, c: Candidate) -> Tally
-    requires { Held t.count entries.old }
-    ensures { Made (offer_all (state_of t.over (take t.count entries.old)) (keep_if c.kept c.entry))
-        result.count result.over entries.new }
-{
-    if c.kept {
-        return insert(entries, t, c.entry);
-    }
-    t
-}
-
-// A node's list: its pairs ascending in the first `count` entries, then zeros; or over, at a 257th different pair.
-#[derive(Clone, Copy)]
+/// A node's list: its pairs ascending in the first `count` entries, then zeros; over once a 257th was offered.
+// By hand: an array with its count, since a node's list is built as `[0; 256]`, a form of document 01; a flag beside it,
+// since the pairs of a list that is over stay.
+#[derive(Drop)]
 pub struct PairList {
-    pub entries: [u32; 256],
-    pub count: usize,
-    pub over: bool,
+    entries: [u32; 256],
+    count: usize,
+    over: bool,
 }
 
-// How many of 256 entries a section of this length has room for.
-fn room_for(length: usize) -> usize
-    ensures { result ≡ min 256 length }
+impl Model for PairList {
+    ghost use Rattle.std.specs.Prelude.{take};
+    ghost use Rattle.filling.specs.Building.{Filling, state_of, Held};
+
+    ghost Value = { Filling };
+
+    ghost view = { λ l. state_of l.over (take l.count l.entries) };
+
+    ghost invariant = { λ l. Held l.count l.entries };
+}
+
+// x put in at `at` among the first `count` entries.
+// By hand: the array with its count, as in `PairList`.
+#[tactic(auto, using(crate::proofs::Places::front_is, crate::proofs::Places::back_is))]
+fn insert_at(entries: &mut [u32; 256], at: usize, count: usize, x: u32)
+    requires within { at ≤ count }
+    requires room { count < 256 }
+    ensures front { take (count + 1) entries.new ≡ insert (take count entries.old) at x }
+    ensures back { drop (count + 1) entries.new ≡ drop (count + 1) entries.old }
 {
-    if length < 256 {
-        return length;
+    entries[count] = x;
+    entries[at..count + 1].rotate_right(1);
+}
+
+impl Collector for PairList {
+    ghost use Rattle.filling.specs.Building.{offer, went_over, stays_over};
+
+    ghost after = { offer };
+
+    ghost is_over = { went_over };
+
+    ghost stays = { stays_over };
+
+    // x put at its place, unless it is there; over if it would be the 257th. A list that is over stays as it is.
+    #[tactic(auto, using(crate::proofs::Fillings::over_offer))]
+    fn offer(&mut self, x: u32) {
+        if self.over {
+            return;
+        }
+        let count = self.count;
+        let Err(at) = self.entries[..count].binary_search(&x) else {
+            return;
+        };
+        let is_full = count == 256;
+        if is_full {
+            self.over = true;
+            return;
+        }
+        insert_at(&mut self.entries, at, count, x);
+        self.count += 1;
     }
-    256
+
+    #[tactic(auto, using(crate::proofs::Fillings::state_over))]
+    fn is_over(&self) -> bool {
+        self.over
+    }
 }
 
-// The whole array into a section, zeros included; of a section that is too short, as much as it has room for.
-pub fn store(list: PairList, section: &mut [u32])
-    ensures { section.new ≡ stored list.entries section.old }
+/// The entries into a section; into one shorter than 256, as much as it has room for.
+#[tactic(auto, using(crate::proofs::Storing::stored_part))]
+pub fn store(entries: &[u32; 256], section: &mut [u32])
+    ensures { section.new ≡ stored entries.now section.old }
 {
-    let room = room_for(section.len());
-    let mut i = 0;
-    while i < room {
-        section[i] = list.entries[i];
-        i += 1;
+    let room = section.len().min(256);
+    section[..room].copy_from_slice(&entries[..room]);
+}
+
+impl PairList {
+    /// The list with no pair.
+    #[tactic(auto, using(crate::proofs::Fillings::held_new), unfolding(crate::specs::Building::state_of))]
+    pub fn new() -> PairList
+        ensures { result ≡ fits [] }
+    {
+        PairList {
+            entries: [0; 256],
+            count: 0,
+            over: false,
+        }
+    }
+
+    /// Its pairs, ascending.
+    #[tactic(auto, using(crate::proofs::Fillings::state_pairs))]
+    pub fn pairs(&self) -> &[u32]
+        ensures { result.now ≡ pairs_of self.now }
+    {
+        &self.entries[..self.count]
+    }
+
+    /// How many pairs it has, and whether it is over.
+    #[tactic(auto, using(crate::proofs::Fillings::tally))]
+    pub fn tally(&self) -> Tally
+        ensures count { result.count ≡ length (pairs_of self.now) }
+        ensures over { result.over ≡ went_over self.now }
+    {
+        Tally {
+            count: self.count,
+            over: self.over,
+        }
+    }
+
+    /// The pairs and zeros behind them into a section; of one shorter than 256, as much as it has room for.
+    #[tactic(auto, using(crate::proofs::Fillings::state_pairs))]
+    pub fn store(&self, section: &mut [u32])
+        ensures { section.new ≡ stored (padded (pairs_of self.now)) section.old }
+    {
+        store(&self.entries, section);
     }
 }

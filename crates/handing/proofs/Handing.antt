@@ -1,36 +1,19 @@
--- The record that is handed in, by its kind; and the bytes of a record of each kind, as the code lays them out.
+-- The record that is handed in, by its kind; and the front of the bytes to be stored of a record of each kind.
 -- Assumes nothing.
-use Rattle.std.proofs.Common.{◌≡◌, refl, sym, ap, Bool, true, false, cond, List, [], ◌∷◌, map, append-nil, ℕ}
-use Rattle.std.proofs.Common.{zero, suc, ◌/◌, ◌≤◌, arith, eqb, length, take, drop, replicate, length-take}
+use Rattle.std.proofs.Common.{◌≡◌, refl, sym, Bool, true, false, cond, List, [], ◌∷◌, map, append-nil, ℕ}
+use Rattle.std.proofs.Common.{zero, suc, ◌≤◌, arith, eqb, length, take, drop, length-take}
 use Rattle.std.proofs.Common.{take_all, ne_eqb, eqb-true}
 use native.Mathlib.Decide.{ℕ_discrete, dec_le}
 use lib.ListN.{length-map}
-use lib.Seq.{paste}
 use Rattle.records.specs.declared.Record.{Record}
-use Rattle.records.specs.Kinds.{size_of, body_length, header_kind, machine_kind, step_kind, leaf_kind, join_kind, hide_kind}
+use Rattle.records.specs.Kinds.{size_of, body_length, header_kind, machine_kind, step_kind, leaf_kind, join_kind}
+use Rattle.records.specs.Kinds.{hide_kind}
 use Rattle.records.specs.Kinds.{rename_kind, end_kind}
 use Rattle.records.specs.Records.{header_record, machine_record, step_record, leaf_record, join_record, hide_record}
 use Rattle.records.specs.Records.{rename_record, end_record, other_record, no_targets}
 use Rattle.decoding.specs.Bytes.{bytes_of}
 use Rattle.records.proofs.Sizes.{each_kind, size_beyond}
-use Rattle.handing.specs.Handing.{low_byte, handed_in, numbers_of, record_array}
-
--- a kind that is none of the eight
-pub handed_other : (used k : ℕ) (xs : List ℕ) → (k ≡ header_kind → ⊥) → (k ≡ machine_kind → ⊥) → (k ≡ step_kind → ⊥)
-    → (k ≡ leaf_kind → ⊥) → (k ≡ join_kind → ⊥) → (k ≡ hide_kind → ⊥) → (k ≡ rename_kind → ⊥) → (k ≡ end_kind → ⊥)
-    → handed_in used k xs ≡ other_record k
-unfolding handed_in
-handed_other used k xs a b c d e f g h =
-    simp (
-      ne_eqb k header_kind a,
-      ne_eqb k machine_kind b,
-      ne_eqb k step_kind c,
-      ne_eqb k leaf_kind d,
-      ne_eqb k join_kind e,
-      ne_eqb k hide_kind f,
-      ne_eqb k rename_kind g,
-      ne_eqb k end_kind h,
-    )
+use Rattle.handing.specs.Handing.{low_byte, handed_in, record_array}
 
 -- a number with a body is a kind's
 some_kind : (k : ℕ) → (size_of k ≡ 1 → ⊥) → (1 ≤ k) × (k ≤ 8)
@@ -42,51 +25,14 @@ some_kind (suc k) p = (omega arith, at (dec_le 9 (suc k)))
     at (yes l) = absurd (p (size_beyond (suc k) l))
     at (no l) = omega arith
 
-low_twice : (x : ℕ) → low_byte x ≡ low_byte (low_byte x)
-low_twice x = omega arith
-
--- the array of a record of each kind, as the code lays it out
 module _ (r : Record) where
-  pub bytes_step : r.kind ≡ step_kind
-      → low_byte r.kind ∷ low_byte r.from ∷ low_byte r.label ∷ low_byte r.to ∷ 0 ∷ replicate 13 0
-      ≡ record_array r
-  unfolding record_array bytes_of size_of body_length
-  bytes_step q = rw q
-
-  pub bytes_join : r.kind ≡ join_kind
-      → low_byte r.kind ∷ low_byte r.left ∷ low_byte r.right ∷ low_byte r.set ∷ low_byte (r.set / 256)
-      ∷ replicate 13 0 ≡ record_array r
-  unfolding record_array bytes_of size_of body_length
-  bytes_join q =
-      rw q (ap (λ (x : ℕ). 5 ∷ low_byte r.left ∷ low_byte r.right ∷ x ∷ low_byte (r.set / 256) ∷ replicate 13 0)
-      (low_twice r.set))
-
-  pub bytes_hide : r.kind ≡ hide_kind
-      → low_byte r.kind ∷ low_byte r.left ∷ low_byte r.set ∷ low_byte (r.set / 256) ∷ 0 ∷ replicate 13 0
-      ≡ record_array r
-  unfolding record_array bytes_of size_of body_length
-  bytes_hide q =
-      rw q (ap (λ (x : ℕ). 6 ∷ low_byte r.left ∷ x ∷ low_byte (r.set / 256) ∷ replicate 14 0) (low_twice r.set))
-
   targets_all : length r.targets ≤ 16 → take 16 (map low_byte r.targets) ≡ map low_byte r.targets
   targets_all few =
       let long : length (map low_byte r.targets) ≡ length r.targets = length-map r.targets low_byte in
       take_all 16 (map low_byte r.targets) (omega arith)
 
-  -- sixteen targets behind the kind and the operand
-  pub bytes_rename : r.kind ≡ rename_kind → length r.targets ≡ 16
-      → paste (low_byte r.kind ∷ low_byte r.left ∷ 0 ∷ 0 ∷ 0 ∷ replicate 13 0) 2 (map low_byte r.targets) 16
-      ≡ record_array r
-  unfolding record_array bytes_of size_of body_length
-  bytes_rename q l = rw (q, targets_all (omega arith))
-
-  pub bytes_end : r.kind ≡ end_kind
-      → low_byte r.kind ∷ low_byte r.number ∷ low_byte (r.number / 256) ∷ 0 ∷ 0 ∷ replicate 13 0 ≡ record_array r
-  unfolding record_array bytes_of size_of body_length
-  bytes_end q = rw q (ap (λ (x : ℕ). 8 ∷ x ∷ low_byte (r.number / 256) ∷ replicate 15 0) (low_twice r.number))
-
   -- a record of no kind is its kind's byte alone
-  kind_alone : size_of r.kind ≡ 1 → bytes_of r ≡ r.kind ∷ []
+  pub kind_alone : size_of r.kind ≡ 1 → bytes_of r ≡ r.kind ∷ []
   unfolding bytes_of size_of body_length
   kind_alone s =
       simp (
@@ -102,22 +48,6 @@ module _ (r : Record) where
     where
       none : (j : ℕ) → 2 ≤ size_of j → eqb r.kind j ≡ false
       none j l = ne_eqb r.kind j (λ q. let z : size_of j ≡ 1 = rw q at s in omega arith)
-
-  pub bytes_other : size_of r.kind ≡ 1 → low_byte r.kind ∷ 0 ∷ 0 ∷ 0 ∷ 0 ∷ replicate 13 0 ≡ record_array r
-  unfolding record_array
-  bytes_other s = rw (s, kind_alone s)
-
-  -- a header, a machine or a leaf
-  pub bytes_number : (r.kind ≡ step_kind → ⊥) → (r.kind ≡ join_kind → ⊥) → (r.kind ≡ hide_kind → ⊥)
-      → (r.kind ≡ rename_kind → ⊥) → (r.kind ≡ end_kind → ⊥) → (size_of r.kind ≡ 1 → ⊥)
-      → low_byte r.kind ∷ low_byte r.number ∷ 0 ∷ 0 ∷ 0 ∷ replicate 13 0 ≡ record_array r
-  unfolding record_array bytes_of size_of body_length
-  bytes_number a b c d e p =
-      let some = some_kind r.kind p in
-      each_kind
-      (λ k. r.kind ≡ k → low_byte r.kind ∷ low_byte r.number ∷ 0 ∷ 0 ∷ 0 ∷ replicate 13 0 ≡ record_array r)
-      (λ q. rw q) (λ q. rw q) (λ q. absurd (a q)) (λ q. rw q) (λ q. absurd (b q)) (λ q. absurd (c q))
-      (λ q. absurd (d q)) (λ q. absurd (e q)) r.kind some.0 some.1 refl
 
   front_alone : size_of r.kind ≡ 1 → take (size_of r.kind) (record_array r) ≡ map low_byte (bytes_of r)
   unfolding record_array
@@ -172,16 +102,3 @@ handed_kind used k xs =
         at : (t : Bool) → eqb k x ≡ t → (cond t p q).kind ≡ k
         at true z = f (eqb-true k x z)
         at false z = e
-
--- the numbers of a record that is no step, join, hide or rename
-pub numbers_other : (r : Record) → (r.kind ≡ step_kind → ⊥) → (r.kind ≡ join_kind → ⊥) → (r.kind ≡ hide_kind → ⊥)
-    → (r.kind ≡ rename_kind → ⊥) → numbers_of r ≡ r.number ∷ 0 ∷ 0 ∷ replicate 14 0
-unfolding numbers_of
-numbers_other r a b c d =
-    simp (
-      ne_eqb r.kind step_kind a,
-      ne_eqb r.kind join_kind b,
-      ne_eqb r.kind hide_kind c,
-      ne_eqb
-          r.kind rename_kind d,
-    )

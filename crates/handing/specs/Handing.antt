@@ -2,7 +2,8 @@
 -- Document 01, "The writer adds one record ..". Assumes nothing.
 use Rattle.std.specs.Prelude.{cond, List, ◌∷◌, ◌++◌, map, ℕ, ◌-◌, ◌%◌, eqb, take, drop, get_or, replicate}
 use Rattle.records.specs.declared.Record.{Record}
-use Rattle.records.specs.Kinds.{header_kind, machine_kind, step_kind, leaf_kind, join_kind, hide_kind, rename_kind, end_kind}
+use Rattle.records.specs.Kinds.{header_kind, machine_kind, step_kind, leaf_kind, join_kind, hide_kind, rename_kind}
+use Rattle.records.specs.Kinds.{end_kind}
 use Rattle.records.specs.Records.{header_record, machine_record, step_record, leaf_record, join_record, hide_record}
 use Rattle.records.specs.Records.{rename_record, end_record, other_record}
 use Rattle.records.specs.Kinds.{is, size_of}

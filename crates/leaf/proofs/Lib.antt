@@ -1,3 +1,4 @@
+pub mod Gathering
 pub mod Carrying
 pub mod Components
 pub mod Enumeration

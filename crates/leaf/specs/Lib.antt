@@ -1,2 +1,3 @@
 pub mod Subsets
+pub mod Yielding
 pub mod Promise

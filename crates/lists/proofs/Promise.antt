@@ -7,7 +7,7 @@ use Rattle.network.proofs.Packing.{first_pack, second_pack, pack_unpack}
 use Rattle.filling.specs.Building.{fits, went_over, filled}
 use Rattle.lists.specs.Promise.{PackedIsFound, FoundIsPacked, JoinGivesRule, HideGivesRule, RenameGivesRule}
 use Rattle.lists.specs.Promise.{ListsInside, OrderDoesNotMatter, OverStaysOver}
-use Rattle.filling.proofs.Filled.{filled_over_is, filled_is, made_gives, filled_stays, in_order_ext}
+use Rattle.filling.proofs.Filled.{filled_over_is, filled_is, filled_gives, filled_stays, in_order_ext}
 use Rattle.entries.proofs.Narrower.{join_candidates_narrower, hide_candidates_narrower, rename_candidates_narrower}
 use Rattle.entries.proofs.Inside.{list_inside}
 
@@ -21,18 +21,15 @@ found_is_packed x = pack_unpack x
 
 pub join_gives_rule : JoinGivesRule
 unfolding JoinGivesRule
-join_gives_rule n h A xs ys p q count over entries m =
-    made_gives _ count over entries (rw (join_candidates_narrower n h xs p A ys q) at m)
+join_gives_rule n h A xs ys p q = rw (join_candidates_narrower n h xs p A ys q) (filled_gives _)
 
 pub hide_gives_rule : HideGivesRule
 unfolding HideGivesRule
-hide_gives_rule n h A a xs p count over entries m =
-    made_gives _ count over entries (rw (hide_candidates_narrower n h xs p A a) at m)
+hide_gives_rule n h A a xs p = rw (hide_candidates_narrower n h xs p A a) (filled_gives _)
 
 pub rename_gives_rule : RenameGivesRule
 unfolding RenameGivesRule
-rename_gives_rule n h f below keeps xs p count over entries m =
-    made_gives _ count over entries (rw (rename_candidates_narrower n h xs p f below keeps) at m)
+rename_gives_rule n h f below keeps xs p = rw (rename_candidates_narrower n h xs p f below keeps) (filled_gives _)
 
 pub lists_inside : ListsInside
 unfolding ListsInside

@@ -1,12 +1,12 @@
--- What this crate proves, each statement by name; proofs/Promise.antt proves them. `Made (filled ..)` is the contract
--- of the code. Assumes nothing.
-use Rattle.std.specs.Prelude.{◌≡◌, Bool, true, false, ℕ, ◌^◌, ◌<◌, ◌≤◌}
+-- What this crate proves, each statement by name; proofs/Promise.antt proves them. `filled ..` is what the
+-- contracts of the code say. Assumes nothing.
+use Rattle.std.specs.Prelude.{◌≡◌, true, false, ℕ, ◌^◌, ◌<◌, ◌≤◌}
 use mathlib.Core.List.{List, ◌++◌, map, Memᴰ}
 use Rattle.network.specs.Network.{Network, TargetsBelow}
 use Rattle.network.specs.Lists.{pack, first_of, second_of, in_order, join_candidates, hide_candidate, rename_candidate}
 use Rattle.network.specs.Lists.{list_of}
 use Rattle.entries.specs.Entries.{width, AllInside, KeepsOthers}
-use Rattle.filling.specs.Building.{went_over, filled, Made, Gives}
+use Rattle.filling.specs.Building.{went_over, filled, Gives}
 
 -- 1. An entry is a pair: what is packed is found again, and every entry is what its two sets pack to
 unfoldable pub PackedIsFound : Type 0
@@ -20,23 +20,17 @@ FoundIsPacked = (x : ℕ) → pack (first_of x) (second_of x) ≡ x
 unfoldable pub JoinGivesRule : Type 0
 JoinGivesRule =
     (n : ℕ) → n ≤ width → (A : ℕ) (xs ys : List ℕ) → AllInside n xs → AllInside n ys
-    → (count : ℕ) (over : Bool) (entries : List ℕ)
-    → Made (filled (join_candidates width A xs ys)) count over entries
-    → Gives (in_order (join_candidates n A xs ys)) count over entries
+    → Gives (in_order (join_candidates n A xs ys)) (filled (join_candidates width A xs ys))
 
 unfoldable pub HideGivesRule : Type 0
 HideGivesRule =
     (n : ℕ) → n ≤ width → (A : ℕ) → A < 2 ^ n → (xs : List ℕ) → AllInside n xs
-    → (count : ℕ) (over : Bool) (entries : List ℕ)
-    → Made (filled (map (hide_candidate width A) xs)) count over entries
-    → Gives (in_order (map (hide_candidate n A) xs)) count over entries
+    → Gives (in_order (map (hide_candidate n A) xs)) (filled (map (hide_candidate width A) xs))
 
 unfoldable pub RenameGivesRule : Type 0
 RenameGivesRule =
     (n : ℕ) → n ≤ width → (f : List ℕ) → TargetsBelow n f → KeepsOthers n f → (xs : List ℕ) → AllInside n xs
-    → (count : ℕ) (over : Bool) (entries : List ℕ)
-    → Made (filled (map (rename_candidate width f) xs)) count over entries
-    → Gives (in_order (map (rename_candidate n f) xs)) count over entries
+    → Gives (in_order (map (rename_candidate n f) xs)) (filled (map (rename_candidate width f) xs))
 
 -- the entries of every node's list have n events
 unfoldable pub ListsInside : Type 0

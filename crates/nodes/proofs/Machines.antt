@@ -7,19 +7,21 @@ use Rattle.network.specs.Model.{idle}
 use Rattle.network.proofs.Nodes.{getD-member}
 use Rattle.records.specs.Kinds.{body_length, size_of, step_kind, is}
 use Rattle.records.specs.Records.{step_record}
-use Rattle.decoding.specs.Bytes.{AreBytes, record_of, first_record}
+use Rattle.decoding.specs.Bytes.{record_of, first_record}
 use Rattle.decoding.proofs.Bytes.{first_kind}
 use Rattle.records.proofs.Choices.{cond_false}
 use Rattle.records.proofs.Sizes.{size_positive}
-use Rattle.reader.specs.Scan.{readable, says}
+use Rattle.reader.specs.declared.model.ReadFile.{ReadFile}
 use Rattle.decoding.specs.Labels.{label_of}
 use Rattle.reader.specs.File.{records_from, records_of, step_of, steps_of, model_of, file_model}
-use Rattle.places.specs.Finding.{machine_place, states_of, steps_at}
+use Rattle.places.specs.Finding.{machine_place, record_at, states_of, steps_at}
 use Rattle.reader.proofs.Turns.{rest}
 use Rattle.reader.proofs.Records.{none_left, records_next}
 use Rattle.places.proofs.Found.{machine_found}
-use Rattle.reader.proofs.Formed.{model_formed}
-use Rattle.reach.specs.Steps.{steps_in, machine_of}
+use Rattle.reader.proofs.ReadFiles.{file_formed}
+use Rattle.reach.specs.Steps.{steps_in, machine_of, AllEndBelow}
+use Rattle.reach.specs.Table.{most_states}
+use Rattle.reach.proofs.Records.{formed_ends}
 use Rattle.places.proofs.Wholeness.{Whole, whole_next, machine_whole, whole_file}
 
 -- the bytes b begin with step records that say the steps xs, four bytes each
@@ -92,46 +94,61 @@ steps_said (suc f) b h w =
         let some : 0 < length b = omega arith in
         rw (records_next f b some) (at some (is step_kind (first_record b)) refl (ih some))
 
-module _ (s : List ℕ) (y : AreBytes s) (e : says s ≡ readable) (m : ℕ) (h : m < length (file_model s).machines) where
+module _ (f : ReadFile) (m : ℕ) (h : m < length (file_model f.bytes.now).machines) where
   -- the machine that number m names
   abbrev pub named : Machine
-  named = get_or (file_model s).machines m idle
+  named = get_or (file_model f.bytes.now).machines m idle
 
-  whole_at : (machine_place s m + 2 ≤ length s) × Whole (drop (machine_place s m + 2) s)
+  whole_at : (machine_place f.bytes.now m + 2 ≤ length f.bytes.now) × Whole (drop (machine_place f.bytes.now m + 2) f.bytes.now)
   unfolding machine_place file_model model_of records_of
-  whole_at = machine_whole (length s) s m (omega arith) (whole_file s e) h
+  whole_at = machine_whole (length f.bytes.now) f.bytes.now m (omega arith) (whole_file f.bytes.now f.is_read) h
 
-  said_at : SaysSteps (drop (machine_place s m + 2) s) named.steps
+  pub place_within : machine_place f.bytes.now m + 2 ≤ length f.bytes.now
+  place_within = whole_at.0
+
+  said_at : SaysSteps (drop (machine_place f.bytes.now m + 2) f.bytes.now) named.steps
   unfolding records_of
   said_at =
-      rw (← (machine_found s m h).steps_found)
-      (steps_said (length (drop (machine_place s m + 2) s)) (drop (machine_place s m + 2) s) (omega arith) whole_at.1)
+      let b : List ℕ = drop (machine_place f.bytes.now m + 2) f.bytes.now in
+      rw (← (machine_found f.bytes.now m h).steps_found) (steps_said (length b) b (omega arith) whole_at.1)
 
-  -- its steps end within the file
-  pub steps_within : machine_place s m + 2 + 4 * steps_at s (machine_place s m + 2) ≤ length s
-  steps_within =
-      omega (
-        arith,
-        (machine_found s m h).count_found,
-        said_at.within,
-        whole_at.0,
-        length-drop (machine_place s m + 2) s,
-      )
+  module _ (p c : ℕ) (ep : p ≡ machine_place f.bytes.now m) (ec : c ≡ steps_at f.bytes.now (p + 2)) where
+    count_is : c ≡ length named.steps
+    count_is = ec ∙ rw ep (machine_found f.bytes.now m h).count_found
 
-  -- the machine that its bytes say
-  pub machine_is : (at end : ℕ) → at ≡ machine_place s m + 2 → end ≡ at + 4 * steps_at s at
-      → machine_of (states_of s m) (take (end - at) (drop at s)) ≡ named
-  unfolding machine_of
-  machine_is at end p q =
-      let n : steps_at s at ≡ length named.steps = rw p (machine_found s m h).count_found in
-      let c : end - at ≡ 4 * length named.steps = omega (arith, q, n) in
-      rw (c, p) (ap₂ (λ (c : ℕ) (xs : List Step). record { states = c; steps = xs })
-      (machine_found s m h).states_found said_at.steps_are)
+    -- its steps end within the file
+    pub steps_within : p + 2 + 4 * c ≤ length f.bytes.now
+    steps_within =
+        omega (arith, ep, count_is, said_at.within, whole_at.0, length-drop (machine_place f.bytes.now m + 2) f.bytes.now)
 
-  pub named_formed : MachineFormed (file_model s).events named
-  named_formed =
-      (model_formed s y e).well_formed.machine_formed named (getD-member (file_model s).machines m idle h)
+    -- the machine that its bytes say
+    pub machine_is : (x : ℕ) → x ≡ (record_at f.bytes.now p).number
+        → machine_of x (take (p + 2 + 4 * c - (p + 2)) (drop (p + 2) f.bytes.now)) ≡ named
+    unfolding machine_of states_of
+    machine_is x ex =
+        let states_is : x ≡ named.states =
+        ex ∙ ap (λ (q : ℕ). (record_at f.bytes.now q).number) ep ∙ (machine_found f.bytes.now m h).states_found in
+        let e : p + 2 + 4 * c - (p + 2) ≡ 4 * length named.steps = omega (arith, count_is) in
+        rw (e, ep) (ap₂ (λ (x : ℕ) (xs : List Step). record { states = x; steps = xs }) states_is said_at.steps_are)
 
-  pub named_states : named.states ≤ 32
-  named_states =
-      ((model_formed s y e).within_limits.states_limit named (getD-member (file_model s).machines m idle h)).1
+  pub formed_named : MachineFormed (file_model f.bytes.now).events named
+  formed_named =
+      (file_formed f).well_formed.machine_formed named (getD-member (file_model f.bytes.now).machines m idle h)
+
+  -- what a machine made of its bytes asks
+  module _ (states : ℕ) (steps : List ℕ) (e : machine_of states steps ≡ named) where
+    pub few_states : states ≤ most_states
+    unfolding machine_of
+    few_states =
+        let q : states ≡ named.states = ap (λ (m : Machine). m.states) e in
+        omega (
+          arith,
+          q,
+          ((file_formed f).within_limits.states_limit named (getD-member (file_model f.bytes.now).machines m idle h)).1,
+        )
+
+    pub steps_end : AllEndBelow most_states (steps_in steps)
+    unfolding machine_of
+    steps_end =
+        let formed : MachineFormed (file_model f.bytes.now).events (machine_of states steps) = rw e formed_named in
+        formed_ends (file_model f.bytes.now).events most_states (machine_of states steps) few_states formed

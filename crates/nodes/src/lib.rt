@@ -1,135 +1,121 @@
-// A node of a readable file: where its operands' lists stand, a leaf's flag, and its list, built and stored.
+// A node of a readable file: its operands' lists, a leaf's flag, and its list, built and stored.
 #![tactic(auto)]
 
-ghost use Rattle.std.specs.Prelude.{◌≡◌, true, ◌&&◌, ◌*◌, ◌+◌, ◌<◌, ◌≤◌, length, get_or};
+ghost use Rattle.std.specs.Prelude.{◌≡◌, true, ◌&&◌, ◌<◌, length, get_or};
 ghost use Rattle.network.specs.Network.{leaf};
 ghost use Rattle.network.specs.Model.{idle};
 ghost use Rattle.network.specs.Loops.{spins};
 ghost use Rattle.network.specs.Lists.{list_of};
 ghost use Rattle.records.specs.Kinds.{leaf_kind, is};
-ghost use Rattle.reader.specs.Scan.{readable, says};
 ghost use Rattle.reader.specs.File.{file_model};
 ghost use Rattle.filling.specs.Building.{Gives};
-ghost use Rattle.nodes.specs.Nodes.{Placed, operands_of, left_of, right_of, list_for};
-ghost use Rattle.nodes.specs.Nodes.{NodeReady, Built};
+ghost use Rattle.nodes.specs.Nodes.{Placed, list_at, left_of, right_of, list_for};
+ghost use Rattle.nodes.specs.Nodes.{NodeReady, built_count, built_in};
 
 use events::EventSet;
-use filling::{PairList, Tally};
-use records::Record;
+use filling::PairList;
+use reach::Machine;
+use reader::ReadFile;
+use records::{Kind, Record};
 
-// Where the lists of a node's operands stand in the working area, and how many pairs each has; none: no pairs.
+// The lists of a node's operands; one that the node hasn't got is empty.
 #[derive(Clone, Copy)]
-pub struct Operands {
-    pub left: usize,
-    pub lefts: usize,
-    pub right: usize,
-    pub rights: usize,
+pub struct Operands<'a> {
+    pub left: &'a [u32],
+    pub right: &'a [u32],
 }
 
-// Where the operands' lists of a node stand, by the counts of the lists so far.
-pub fn operands_of(r: Record, counts: &[usize; 32]) -> Operands
-    requires { (length counts.now ≡ 32) × Placed r 32 }
-    ensures { result ≡ operands_of r counts.now }
+// The list of node i: the first pairs of its section, as many as it counts.
+fn list_at<'a>(sections: &'a [u32], counts: &[usize; 32], i: u32) -> &'a [u32]
+    requires { i < 32 }
+    ensures { result.now ≡ list_at counts.now sections.now i }
 {
-    if r.kind == records::LEAF {
-        return Operands {
-            left: 0,
-            lefts: 0,
-            right: 0,
-            rights: 0,
-        };
-    }
-    let i = r.left as usize;
-    if r.kind == records::JOIN {
-        let j = r.right as usize;
-        return Operands {
-            left: 256 * i,
-            lefts: counts[i],
-            right: 256 * j,
-            rights: counts[j],
-        };
-    }
+    let start = (256 * i as usize).min(sections.len());
+    let section = &sections[start..];
+    let count = counts[i as usize].min(section.len());
+    &section[..count]
+}
+
+// The lists of a node's operands, by the sections of the nodes so far and the counts of their lists.
+pub fn operands_of<'a>(r: Record, counts: &[usize; 32], sections: &'a [u32]) -> Operands<'a>
+    requires { Placed r 32 }
+    ensures left { result.left.now ≡ left_of r counts.now sections.now }
+    ensures right { result.right.now ≡ right_of r counts.now sections.now }
+{
     Operands {
-        left: 256 * i,
-        lefts: counts[i],
-        right: 0,
-        rights: 0,
+        left: if r.is(Kind::Leaf) {
+            &[]
+        } else {
+            list_at(sections, counts, r.left)
+        },
+        right: if r.is(Kind::Join) {
+            list_at(sections, counts, r.right)
+        } else {
+            &[]
+        },
     }
+}
+
+// Machine m of the file.
+fn machine_at(file: ReadFile<'_>, m: u32) -> Machine<'_>
+    requires { m < length (file_model file.bytes.now).machines }
+    ensures { result ≡ get_or (file_model file.entry.bytes.now).machines m idle }
+{
+    let place = places::machine_place(file.bytes, m);
+    let start = place + 2;
+    let end = start + 4 * places::steps_at(file.bytes, start) as usize;
+    Machine::new(
+        &file.bytes[start..end],
+        places::number_at(file.bytes, place),
+    )
 }
 
 // Whether the node is a leaf whose flag is up.
-pub fn is_spinning_leaf(bytes: &[u8], r: Record) -> bool
-    requires { (says bytes.now ≡ readable)
-        × (is leaf_kind r ≡ true → r.number < length (file_model bytes.now).machines) }
-    ensures { result ≡ (is leaf_kind r && spins (get_or (file_model bytes.now).machines r.number idle)) }
+pub fn is_spinning_leaf(file: ReadFile, r: Record) -> bool
+    requires { is leaf_kind r ≡ true → r.number < length (file_model file.bytes.now).machines }
+    ensures { result ≡ (is leaf_kind r && spins (get_or (file_model file.entry.bytes.now).machines r.number idle)) }
 {
-    if r.kind != records::LEAF {
+    if !r.is(Kind::Leaf) {
         return false;
     }
-    let place = places::machine_place(bytes, r.number);
-    let at = place + 2;
-    let end = at + 4 * places::steps_at(bytes, at) as usize;
-    leaf::is_spinning(&bytes[at..end], places::number_at(bytes, place))
+    leaf::is_spinning(&machine_at(file, r.number))
 }
 
 // The list of a leaf of machine m.
-fn leaf_list(bytes: &[u8], m: u32, n: u32) -> PairList
-    requires { (says bytes.now ≡ readable) × (m < length (file_model bytes.now).machines)
-        × (n ≡ (file_model bytes.now).events) }
-    ensures { Gives (list_of n (leaf (get_or (file_model bytes.now).machines m idle)))
-        result.count result.over result.entries }
+fn leaf_list(file: ReadFile, m: u32) -> PairList
+    requires { m < length (file_model file.bytes.now).machines }
+    ensures { Gives (list_of file.entry.events (leaf (get_or (file_model file.entry.bytes.now).machines m idle))) result }
 {
-    let place = places::machine_place(bytes, m);
-    let at = place + 2;
-    let end = at + 4 * places::steps_at(bytes, at) as usize;
-    leaf::pairs(&bytes[at..end], places::number_at(bytes, place), n)
+    leaf::pairs(&machine_at(file, m), file.events)
 }
 
 // The list of a node, from its operands'.
-fn node_list(bytes: &[u8], n: u32, r: Record, xs: &[u32], ys: &[u32]) -> PairList
-    requires { NodeReady bytes.now n r xs.now ys.now }
-    ensures { Gives (list_for (file_model bytes.now) r xs.now ys.now)
-        result.count result.over result.entries }
+fn node_list(file: ReadFile, r: Record, o: Operands) -> PairList
+    requires { NodeReady (file_model file.bytes.now) r o.left.now o.right.now }
+    ensures { Gives (list_for (file_model file.entry.bytes.now) r o.entry.left.now o.entry.right.now) result }
 {
-    if r.kind == records::LEAF {
-        return leaf_list(bytes, r.number, n);
+    let set = EventSet::from_bits(r.set);
+    match Kind::try_from(r.kind) {
+        Ok(Kind::Leaf) => leaf_list(file, r.number),
+        Ok(Kind::Join) => lists::join(o.left, o.right, set),
+        Ok(Kind::Hide) => lists::hide(o.left, set),
+        _ => lists::rename(o.left, r.targets),
     }
-    if r.kind == records::RENAME {
-        let targets = r.targets;
-        return lists::rename(xs, targets);
-    }
-    let set = EventSet { bits: r.set };
-    if r.kind == records::JOIN {
-        return lists::join(xs, ys, set);
-    }
-    lists::hide(xs, set)
 }
 
-// The list of node k built and, unless it is over, stored in section k; of one that is over no pair counts.
-pub fn build(bytes: &[u8], n: u32, r: Record, o: Operands, k: usize, area: &mut [u32]) -> Tally
-    requires { NodeReady bytes.now n r (left_of o area.old) (right_of o area.old) × (k < 32)
-        × (256 * k + 256 ≤ length area.old) × (o.left + o.lefts ≤ 256 * k)
-        × (o.right + o.rights ≤ 256 * k) }
-    ensures { Built
-        (list_for (file_model bytes.now) r (left_of o area.old) (right_of o area.old))
-        k area.old result.count result.over area.new }
+// The node's list built and, unless it is over, stored in the section that comes first; its count, none of one that is
+// over.
+pub fn build(file: ReadFile, r: Record, o: Operands, sections: &mut [u32]) -> Option<usize>
+    requires { NodeReady (file_model file.bytes.now) r o.left.now o.right.now }
+    ensures count { result ≡ built_count (list_for (file_model file.entry.bytes.now) r o.entry.left.now o.entry.right.now) }
+    ensures area { sections.new
+        ≡ built_in (list_for (file_model file.entry.bytes.now) r o.entry.left.now o.entry.right.now) sections.old }
 {
-    let a = o.left;
-    let ae = a + o.lefts;
-    let b = o.right;
-    let be = b + o.rights;
-    let list = node_list(bytes, n, r, &area[a..ae], &area[b..be]);
-    let t = Tally {
-        count: list.count,
-        over: list.over,
-    };
+    let list = node_list(file, r, o);
+    let t = list.tally();
     if t.over {
-        return Tally {
-            count: 0,
-            over: true,
-        };
+        return None;
     }
-    let at = 256 * k;
-    filling::store(list, &mut area[at..at + 256]);
-    t
+    list.store(sections);
+    Some(t.count)
 }

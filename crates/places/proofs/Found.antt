@@ -1,43 +1,23 @@
 -- What is found in a file is what its model says: node k, and machine m with its state count and its steps.
 -- Assumes nothing.
 use Rattle.std.proofs.Common.{◌≡◌, refl, sym, ap, ◌∙◌, Bool, true, false, cond, ◌&&◌, List, [], ◌∷◌, ◌⊎◌, inl}
-use Rattle.std.proofs.Common.{inr, ℕ, zero, suc, ◌+◌, ◌≤◌, ◌<◌, arith, eqb, length, drop, get_or, length-drop}
+use Rattle.std.proofs.Common.{inr, ℕ, zero, suc, ◌+◌, ◌≤◌, ◌<◌, arith, eqb, length, drop, get_or}
 use Rattle.std.proofs.Common.{drop-drop, eqb-true}
 use native.Mathlib.Decide.{dec_lt}
 use Rattle.network.specs.Machine.{Machine}
 use Rattle.network.specs.Model.{Node, leaf_node, idle}
 use Rattle.records.specs.declared.Record.{Record}
-use Rattle.records.specs.Kinds.{body_length, size_of, machine_kind, leaf_kind, join_kind, hide_kind, rename_kind, is, is_node}
+use Rattle.records.specs.Kinds.{body_length, size_of, machine_kind, leaf_kind, join_kind, hide_kind, rename_kind}
+use Rattle.records.specs.Kinds.{is, is_node}
 use Rattle.decoding.specs.Bytes.{record_of, first_record}
 use Rattle.records.proofs.Choices.{cond_true, cond_false, true_not_false}
-use Rattle.records.proofs.Sizes.{size_positive}
 use Rattle.reader.specs.File.{records_from, records_of, steps_of, machines_of, node_of, nodes_of, model_of, file_model}
 use Rattle.reader.specs.Encoding.{record_of_node}
 use Rattle.places.specs.Finding.{place_in, node_place, machine_place, record_at, states_of, steps_at}
 use Rattle.reader.proofs.Turns.{rest}
 use Rattle.reader.proofs.Records.{none_left, records_next}
+use Rattle.places.proofs.Standing.{empty_or_not, shorter, same_records}
 use Rattle.places.proofs.Seeking.{gone, found_here, place_behind, place_next}
-
-empty_or_not : (n : ℕ) → (n ≡ 0) ⊎ (0 < n)
-empty_or_not zero = inl refl
-empty_or_not (suc n) = inr (omega arith)
-
-shorter : (b : List ℕ) (f : ℕ) → 0 < length b → length b ≤ suc f → length (rest b) ≤ f
-shorter b f h k = omega (arith, length-drop (size_of (first_record b).kind) b, size_positive (first_record b).kind)
-
--- fuel that suffices is fuel enough
-pub same_records : (f f' : ℕ) (b : List ℕ) → length b ≤ f → length b ≤ f' → records_from f b ≡ records_from f' b
-same_records zero f' b h k = none_left 0 b (omega arith) ∙ sym (none_left f' b (omega arith))
-same_records (suc f) zero b h k = none_left (suc f) b (omega arith) ∙ sym (none_left 0 b (omega arith))
-same_records (suc f) (suc f') b h k = go (empty_or_not (length b)) (same_records f f' (rest b))
-  where
-    go : (length b ≡ 0) ⊎ (0 < length b)
-        → (length (rest b) ≤ f → length (rest b) ≤ f' → records_from f (rest b) ≡ records_from f' (rest b))
-        → records_from (suc f) b ≡ records_from (suc f') b
-    go (inl z) ih = none_left (suc f) b z ∙ sym (none_left (suc f') b z)
-    go (inr l) ih =
-        records_next f b l ∙ ap (λ (rs : List Record). first_record b ∷ rs) (ih (shorter b f l h) (shorter b f' l k))
-        ∙ sym (records_next f' b l)
 
 -- what p picks among some records: each with what stands behind it, as said says it
 module _ {A : Type 0} (p : Record → Bool) (said : Record → List Record → A) (d : A) where
@@ -145,8 +125,8 @@ unfolding record_of_node node_of
 kind_back r h =
     at (is leaf_kind r) refl (is join_kind r) refl (is hide_kind r) refl (is rename_kind r) refl
   where
-    at : (a : Bool) → is leaf_kind r ≡ a → (b : Bool) → is join_kind r ≡ b → (c : Bool) → is hide_kind r ≡ c → (d : Bool)
-        → is rename_kind r ≡ d → (record_of_node (node_of r)).kind ≡ r.kind
+    at : (a : Bool) → is leaf_kind r ≡ a → (b : Bool) → is join_kind r ≡ b → (c : Bool) → is hide_kind r ≡ c
+        → (d : Bool) → is rename_kind r ≡ d → (record_of_node (node_of r)).kind ≡ r.kind
     at true p b q c s d t = rw p (sym (eqb-true r.kind leaf_kind p))
     at false p true q c s d t = rw (p, q) (sym (eqb-true r.kind join_kind q))
     at false p false q true s d t = rw (p, q, s) (sym (eqb-true r.kind hide_kind s))
@@ -175,7 +155,8 @@ node_inside s k h = go (dec_lt (node_place s k) (length s))
 -- where machine m begins stand its state count and, behind two bytes, its steps
 pub record MachineFound (s : List ℕ) (m : ℕ) : Type 0 where
   pub states_found : states_of s m ≡ (get_or (file_model s).machines m idle).states
-  pub steps_found : steps_of (records_of (drop (machine_place s m + 2) s)) ≡ (get_or (file_model s).machines m idle).steps
+  pub steps_found : steps_of (records_of (drop (machine_place s m + 2) s))
+      ≡ (get_or (file_model s).machines m idle).steps
   pub count_found : steps_at s (machine_place s m + 2) ≡ length (get_or (file_model s).machines m idle).steps
 
 pub machine_found : (s : List ℕ) (m : ℕ) → m < length (file_model s).machines → MachineFound s m
@@ -186,7 +167,8 @@ machine_found s m h =
     let l : length (picked (is machine_kind) machine_of idle rs) ≡ length (machines_of rs) = ap length q in
     let w = found (is machine_kind) machine_of idle (length s) s m (omega arith) (omega arith) in
     let place = place_in (is machine_kind) rs m in
-    let e : machine_of (first_record (drop place s)) (records_of (rest (drop place s))) ≡ get_or (machines_of rs) m idle =
+    let e : machine_of (first_record (drop place s)) (records_of (rest (drop place s)))
+    ≡ get_or (machines_of rs) m idle =
     w.0 ∙ ap (λ (xs : List Machine). get_or xs m idle) q in
     let size : size_of (first_record (drop place s)).kind ≡ 2 =
     ap size_of (eqb-true (first_record (drop place s)).kind machine_kind w.1) in

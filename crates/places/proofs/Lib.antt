@@ -1,3 +1,4 @@
+pub mod Standing
 pub mod Seeking
 pub mod Counting
 pub mod Found

@@ -16,10 +16,11 @@ use Rattle.reader.proofs.Turns.{rest, Then, Turn, turn_out, turn_passed, turn_wh
 use Rattle.reader.proofs.Readings.{readable_out}
 use Rattle.reader.proofs.Records.{none_left, records_next, end_known}
 use Rattle.places.proofs.Seeking.{found_here, place_behind, place_next}
+use Rattle.std.specs.Prelude.{Ok}
 
 -- nothing is left, or a scan of the bytes b finishes
 pub Whole : List ℕ → Type 0
-Whole b = (length b ≡ 0) ⊎ ((f : ℕ) × (g : Progress) × (h : Progress) × (scan_from f g b ≡ Finished h))
+Whole b = (length b ≡ 0) ⊎ ((f : ℕ) × (g : Progress) × (h : Progress) × (scan_from f g b ≡ Ok (Finished h)))
 
 -- then the first record is whole, and so are those behind it
 pub whole_next : (b : List ℕ) → Whole b → 0 < length b → (size_of (first_record b).kind ≤ length b) × Whole (rest b)
@@ -60,7 +61,8 @@ machine_whole (suc f) b k h w l =
     rs = records_from f (rest b)
 
     Behind : List Record → ℕ → List ℕ → Type 0
-    Behind qs j c = (place_in (is machine_kind) qs j + 2 ≤ length c) × Whole (drop (place_in (is machine_kind) qs j + 2) c)
+    Behind qs j c =
+        (place_in (is machine_kind) qs j + 2 ≤ length c) × Whole (drop (place_in (is machine_kind) qs j + 2) c)
 
     later : (j : ℕ) → place_in (is machine_kind) (r ∷ rs) k ≡ size_of r.kind + place_in (is machine_kind) rs j
         → size_of r.kind ≤ length b → Behind rs j (rest b) → Behind (r ∷ rs) k b

@@ -12,10 +12,6 @@ place_in p [] k = 0
 place_in p (r ∷ rs) k =
     cond (p r) (cond (eqb k 0) 0 (size_of r.kind + place_in p rs (k - 1))) (size_of r.kind + place_in p rs k)
 
--- which records are sought: nodes, or machines
-abbrev pub sought : Bool → Record → Bool
-sought nodes r = cond nodes (is_node r) (is machine_kind r)
-
 -- where node k of the file s begins
 unfoldable pub node_place : List ℕ → ℕ → ℕ
 node_place s k = place_in is_node (records_of s) k

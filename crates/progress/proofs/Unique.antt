@@ -1,11 +1,9 @@
 -- Each function of this crate is settled by its contract: two results that meet it are equal.
 -- Assumes nothing.
 use Rattle.std.proofs.Common.{◌≡◌, ℕ, ◌-◌}
-use Rattle.events.specs.Sets.{digit}
 use Rattle.events.proofs.Unique.{settled}
 use Rattle.records.specs.declared.Record.{Record}
 use Rattle.progress.specs.declared.Progress.{Progress}
-use Rattle.records.specs.Kinds.{leaf_kind, is}
 use Rattle.progress.specs.Progress.{start, with, used_with, take_record}
 
 pub with_member_unique : (s y : ℕ) (x x' : ℕ) → x ≡ with s y → x' ≡ with s y → x ≡ x'
@@ -13,9 +11,6 @@ with_member_unique s y x x' p q = settled p q
 
 pub one_less_unique : (k : ℕ) (x x' : ℕ) → x ≡ k - 1 → x' ≡ k - 1 → x ≡ x'
 one_less_unique k x x' p q = settled p q
-
-pub leaf_count_unique : (r : Record) (x x' : ℕ) → x ≡ digit (is leaf_kind r) → x' ≡ digit (is leaf_kind r) → x ≡ x'
-leaf_count_unique r x x' p q = settled p q
 
 pub used_with_unique : (g : Progress) (r : Record) (x x' : ℕ) → x ≡ used_with g r → x' ≡ used_with g r → x ≡ x'
 used_with_unique g r x x' p q = settled p q

@@ -1,6 +1,7 @@
 pub mod Records
+pub mod Labels
+pub mod Arrays
 pub mod Tables
 pub mod Linking
-pub mod Gathering
 pub mod Testing
 pub mod Unique

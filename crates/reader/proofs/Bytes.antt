@@ -17,12 +17,13 @@ use Rattle.reader.specs.Encoding.{bytes_of_all}
 use Rattle.reader.proofs.Turns.{rest, Then, Turn, turn_out, turn_passed, turn_whole, none_finished}
 use Rattle.reader.proofs.Records.{none_left, records_next, end_known}
 use Rattle.reader.proofs.Readings.{readable_out}
+use Rattle.std.specs.Prelude.{Ok}
 
 pub bytes_drop : (n : ℕ) (b : List ℕ) → AreBytes b → AreBytes (drop n b)
 unfolding AreBytes
 bytes_drop n b w i = rw (get_or-drop n b i 0) (w (n + i))
 
-bytes_of_lem : (f : ℕ) (g h : Progress) (b : List ℕ) → AreBytes b → scan_from f g b ≡ Finished h
+bytes_of_lem : (f : ℕ) (g h : Progress) (b : List ℕ) → AreBytes b → scan_from f g b ≡ Ok (Finished h)
     → bytes_of_all (records_from f b) ≡ b
 unfolding flat_map size_of body_length
 bytes_of_lem zero g h b y e = none_finished g h b e
@@ -45,7 +46,7 @@ bytes_of_lem (suc f) g h b y e =
         first_bytes b y k.some_left w.0 w.1 (turn_whole f g b h k)
 
     go : Then f g b h
-        → ((g' : Progress) (b' : List ℕ) → AreBytes b' → scan_from f g' b' ≡ Finished h
+        → ((g' : Progress) (b' : List ℕ) → AreBytes b' → scan_from f g' b' ≡ Ok (Finished h)
         → bytes_of_all (records_from f b') ≡ b')
         → (take n b ++ bytes_of_all (records_from f (rest b))) ≡ take n b ++ drop n b
     go (inl w) again =

@@ -14,6 +14,6 @@ use Rattle.reader.specs.Cases.{example, eight, files, said}
 
 pub cases_are_said : map says files ≡ said
 unfolding
-    map example eight files said says said_of reading_of to_reading scan_of scan_from first_record record_of size_of body_length
+    example eight files said says said_of reading_of to_reading scan_of scan_from first_record record_of size_of body_length
     no_targets targets_in take_record used_with start first_hit wrong_targets has set_of count
 cases_are_said = refl

@@ -1,22 +1,22 @@
 -- Demand 1, first half: a readable file cut anywhere is refused with 2 at the start of the record that the cut is in.
 -- Assumes nothing.
-use Rattle.std.proofs.Common.{◌≡◌, refl, sym, ap, ◌∙◌, Bool, true, false, cond, List, [], ◌∷◌, ◌++◌, ◌≢◌, ◌⊎◌}
+use Rattle.std.proofs.lemmas.List.{drop-take}
+use Rattle.std.proofs.Common.{◌≡◌, refl, sym, ap, ◌∙◌, Bool, true, false, cond, List, ◌++◌, ◌≢◌, ◌⊎◌}
 use Rattle.std.proofs.Common.{inl, inr, ℕ, zero, suc, ◌+◌, ◌-◌, ◌≤◌, ◌<◌, arith, ltb, length, take, drop}
 use Rattle.std.proofs.Common.{length-drop, take-append-drop, length-take-le, lt-ltb, le-ltb, ltb-true, ltb-false}
 use Rattle.std.proofs.Common.{ne_eqb}
-use lib.Seq.{take-nil}
 use Rattle.records.specs.declared.Record.{Record}
 use Rattle.progress.specs.declared.Progress.{Progress}
 use Rattle.records.specs.Kinds.{body_length, size_of, end_kind}
 use Rattle.decoding.specs.Bytes.{first_record}
 use Rattle.progress.specs.Progress.{start, take_record}
 use Rattle.tests.specs.Tests.{bad_kind, cut_short}
-use Rattle.tests.specs.FirstHit.{first_hit, refusal}
+use Rattle.tests.specs.FirstHit.{first_hit}
 use Rattle.records.proofs.Sizes.{size_positive}
 use Rattle.decoding.proofs.Bytes.{same_first, cut_kind}
 use Rattle.tests.proofs.Passing.{Passed, hit_cut, pass_with}
 use Rattle.reader.specs.declared.Scan.{Scan}
-use Rattle.reader.specs.declared.Scan.TheVariants.{Stopped, Finished, Refused}
+use Rattle.reader.specs.declared.Scan.TheVariants.{Stopped, Finished}
 use Rattle.reader.specs.Scan.{scan_from, scan_of, readable, refused, says}
 use Rattle.reader.specs.File.{records_from, records_of}
 use Rattle.reader.specs.Promise.{start_of}
@@ -24,17 +24,17 @@ use Rattle.reader.proofs.Turns.{rest, Then, Turn, turn_out, turn_passed, none_fi
 use Rattle.reader.proofs.Turns.{scan_stopped, scan_refused, scan_next}
 use Rattle.reader.proofs.Records.{records_next, end_known}
 use Rattle.reader.proofs.Readings.{Finishes, readable_out, stopped_says, refused_says}
+use Rattle.tests.specs.Reasons.{refusal}
+use Rattle.std.specs.Prelude.{Result, Ok, Err}
+use Rattle.tests.specs.declared.Reason.TheVariants.{CutShort}
+use Rattle.tests.specs.declared.Refusal.{Refusal}
 
 -- the scan of a cut file: it stops where a record should begin, or is refused with 2
-abbrev pub Cut : Scan → ℕ → Type 0
-Cut v place = ((g : Progress) × (v ≡ Stopped g) × (g.place ≡ place)) ⊎ (v ≡ Refused (refusal 2 place))
+abbrev pub Cut : Result Scan Refusal → ℕ → Type 0
+Cut v place = ((g : Progress) × (v ≡ Ok (Stopped g)) × (g.place ≡ place)) ⊎ (v ≡ Err (refusal CutShort place))
 
 drop_take : (n k : ℕ) (b : List ℕ) → n ≤ k → drop n (take k b) ≡ take (k - n) (drop n b)
-drop_take zero k b h = let z : k - 0 ≡ k = omega arith in rw z
-drop_take (suc n) zero b h = absurd (omega arith)
-drop_take (suc n) (suc k) [] h = sym (take-nil (suc k - suc n))
-drop_take (suc n) (suc k) (x ∷ b) h =
-    let z : suc k - suc n ≡ k - n = omega arith in rw z (drop_take n k b (omega arith))
+drop_take n k b h = let z : n + (k - n) ≡ k = omega arith in rw z at (drop-take n (k - n) b)
 
 -- a first record that passes, and a cut before the end of the bytes
 module _ (g : Progress) (b : List ℕ) (k : ℕ) (some : 0 < length b) (p : Passed g (first_record b) (length b))
@@ -57,9 +57,9 @@ module _ (g : Progress) (b : List ℕ) (k : ℕ) (some : 0 < length b) (p : Pass
           rw (kind, taken) (lt-ltb k (size_of (first_record b).kind) c) in
           let place : g.place ≡ g.place + 0 = omega arith in
           inr
-          (scan_refused f' g (take k b) 2 (omega (arith, taken))
-          (hit_cut g (first_record (take k b)) (length (take k b)) known cut) (λ z. omega arith)
-          ∙ ap (λ (x : ℕ). Refused (refusal 2 x)) place)
+          (scan_refused f' g (take k b) CutShort (omega (arith, taken))
+          (hit_cut g (first_record (take k b)) (length (take k b)) known cut)
+          ∙ ap (λ (x : ℕ). Err (refusal CutShort x)) place)
 
   -- the cut is behind the first record, which is then no end
   module _ (c : size_of (first_record b).kind ≤ k) where
@@ -86,7 +86,7 @@ module _ (g : Progress) (b : List ℕ) (k : ℕ) (some : 0 < length b) (p : Pass
     pub behind_first : (f' : ℕ) → scan_from (suc f') g (take k b)
         ≡ scan_from f' (take_record g (first_record b)) (take (k - size_of (first_record b).kind) (rest b))
     behind_first f' =
-        let tested : first_hit g (first_record (take k b)) (length (take k b)) ≡ 0 =
+        let tested : first_hit g (first_record (take k b)) (length (take k b)) ≡ Ok tt =
         rw (same, taken)
         (pass_with g (first_record b) k (length b) p (le-ltb k (size_of (first_record b).kind) c)
         (rw (ne_eqb (first_record b).kind end_kind no_end))) in
@@ -94,7 +94,7 @@ module _ (g : Progress) (b : List ℕ) (k : ℕ) (some : 0 < length b) (p : Pass
         (λ q. no_end (sym (ap (λ (x : Record). x.kind) same) ∙ q))
         ∙ rw (same, drop_take (size_of (first_record b).kind) k b c)
 
-pub cut_scan : (f f' : ℕ) (g h : Progress) (b : List ℕ) (k : ℕ) → k < length b → k ≤ f' → scan_from f g b ≡ Finished h
+pub cut_scan : (f f' : ℕ) (g h : Progress) (b : List ℕ) (k : ℕ) → k < length b → k ≤ f' → scan_from f g b ≡ Ok (Finished h)
     → Cut (scan_from f' g (take k b)) (g.place + start_of (records_from f b) k)
 unfolding start_of take_record
 cut_scan zero f' g h b k l m e = none_finished g h b e
@@ -112,7 +112,7 @@ cut_scan (suc f) f' g h b k l m e =
     size = size_of (first_record b).kind
 
     go : (x : Bool) → ltb k (size_of (first_record b).kind) ≡ x → (f' : ℕ) → k ≤ f'
-        → ((f'' : ℕ) (g' : Progress) (b' : List ℕ) (k' : ℕ) → k' < length b' → k' ≤ f'' → scan_from f g' b' ≡ Finished h
+        → ((f'' : ℕ) (g' : Progress) (b' : List ℕ) (k' : ℕ) → k' < length b' → k' ≤ f'' → scan_from f g' b' ≡ Ok (Finished h)
         → Cut (scan_from f'' g' (take k' b')) (g'.place + start_of (records_from f b') k'))
         → Cut (scan_from f' g (take k b))
         (g.place + cond x 0
@@ -159,4 +159,4 @@ cut_refused s e k l =
     go : Cut (scan_of (take k s)) (0 + start_of (records_from (length s) s) k)
         → says (take k s) ≡ refused 2 (start_of (records_from (length s) s) k)
     go (inl (g, q, place)) = stopped_says (take k s) short g q ∙ ap (refused 2) (place ∙ zero_add _)
-    go (inr q) = refused_says (take k s) short 2 _ q ∙ ap (refused 2) (zero_add _)
+    go (inr q) = refused_says (take k s) short CutShort _ q ∙ ap (refused 2) (zero_add _)

@@ -17,7 +17,7 @@ use Rattle.reader.specs.Encoding.{TargetsFilled}
 use Rattle.reader.proofs.OneEncoding.{bytes_append}
 use Rattle.reader.proofs.ScanBack.{AllDecode, decode_append}
 use Rattle.reader.proofs.StepKeys.{code_below}
-use Rattle.reader.proofs.Ranges.{get_d_any}
+use Rattle.std.proofs.lemmas.List.{get_or_default}
 use Rattle.reader.proofs.NodePhase.{NodeFilled, NodesFit}
 use Rattle.reader.proofs.NodesPass.{fit_tail}
 
@@ -42,7 +42,7 @@ bytes_two x h = bytes_cons (x % 256) (x / 256 ∷ []) (omega arith) (bytes_cons 
 
 steps_bytes : (n c : ℕ) (xs : List Step) → n ≤ 16 → c ≤ 32 → ((x : Step) → Memᴰ x xs → StepFormed n c x)
     → AreBytes (bytes_of_all (map record_of_step xs)) × AllDecode (map record_of_step xs)
-unfolding map flat_map record_of_step bytes_of StepFormed AllDecode
+unfolding flat_map record_of_step bytes_of StepFormed AllDecode
 steps_bytes n c [] hn hc f = (bytes_nil, tt)
 steps_bytes n c (step s l t ∷ xs) hn hc f =
     let w = f (step s l t) (Memᴰ.head refl) in
@@ -85,7 +85,7 @@ unfolding AreBytes TargetsBelow TargetsFilled
 targets_bytes n f hn b (h, filled) i = go (dec_lt i n) (dec_lt i 16)
   where
     go : Dec (i < n) → Dec (i < 16) → byte f i < 256
-    go (yes l) d = let q : byte f i ≡ get_or f i i = get_d_any f i 0 i (omega arith) in omega (arith, q, b i l)
+    go (yes l) d = let q : byte f i ≡ get_or f i i = get_or_default f i 0 i (omega arith) in omega (arith, q, b i l)
     go (no l) (yes k) = omega (arith, filled i (omega (arith, l)) k)
     go (no l) (no k) = let q : byte f i ≡ 0 = get_or-eq_default f 0 (omega (arith, k)) in omega arith
 
@@ -114,7 +114,7 @@ node_bytes n c k (rename_node i s) hn hc hk f t = (
 
 pub nodes_bytes : (n c k : ℕ) (xs : List Node) → n ≤ 16 → c ≤ 12 → k + length xs ≤ 32 → NodesFit n c k xs
     → AreBytes (bytes_of_all (map record_of_node xs)) × AllDecode (map record_of_node xs)
-unfolding map flat_map AllDecode
+unfolding flat_map AllDecode
 nodes_bytes n c k [] hn hc hk f = (bytes_nil, tt)
 nodes_bytes n c k (x ∷ xs) hn hc hk f =
     let z : k + 0 ≡ k = omega arith in

@@ -22,8 +22,7 @@ use Rattle.decoding.proofs.Decodes.{decodes_header, decodes_end}
 use Rattle.reader.specs.declared.Scan.TheVariants.{Finished}
 use Rattle.reader.specs.Scan.{scan_from, scan_of, readable, says}
 use Rattle.reader.specs.File.{records_from, records_of, model_of, file_model}
-use Rattle.reader.specs.Encoding.{records_of_machine, record_of_node, model_records, bytes_of_all}
-use Rattle.reader.specs.Encoding.{encode, Encodable}
+use Rattle.reader.specs.Encoding.{records_of_machine, record_of_node, model_records, bytes_of_all, encode, Encodable}
 use Rattle.reader.proofs.Readings.{readable_in}
 use Rattle.reader.proofs.Records.{EndsOnce}
 use Rattle.reader.proofs.OneEncoding.{bytes_append, with_end}
@@ -40,8 +39,8 @@ use Rattle.reader.proofs.Size.{encode_size}
 use Rattle.reader.proofs.ScanBack.{AllDecode, decode_append, after_place, scan_back}
 use Rattle.reader.proofs.ModelBack.{formed_back, model_back}
 use Rattle.reader.proofs.Endings.{late_nodes, NoEnds, ends_in, no_ends_append, machines_no_end, nodes_no_end}
-use Rattle.reader.proofs.EncodedBytes.{bytes_cons, bytes_both, bytes_two, machines_bytes}
-use Rattle.reader.proofs.EncodedBytes.{nodes_bytes}
+use Rattle.reader.proofs.EncodedBytes.{bytes_cons, bytes_both, bytes_two, machines_bytes, nodes_bytes}
+use Rattle.std.specs.Prelude.{Ok}
 
 module _ (M : Model) (e : Encodable M) where
   few_events : M.events ≤ 16
@@ -50,7 +49,7 @@ module _ (M : Model) (e : Encodable M) where
   some_events : M.events ≢ 0
   some_events q = omega (arith, e.within_limits.events_limit.0)
 
-  header_passes : first_hit start (header_record M.events) (size_of 1) ≡ 0
+  header_passes : first_hit start (header_record M.events) (size_of 1) ≡ Ok tt
   unfolding start
   header_passes =
       met_in start (header_record M.events)
@@ -151,7 +150,7 @@ module _ (M : Model) (e : Encodable M) where
         ),
       )
 
-  end_passes : first_hit (behind_nodes M) (end_record (length body)) (size_of 8) ≡ 0
+  end_passes : first_hit (behind_nodes M) (end_record (length body)) (size_of 8) ≡ Ok tt
   unfolding body start
   end_passes =
       let p : (after start (model_records M)).place ≡ 0 + length (bytes_of_all (model_records M)) =
@@ -198,7 +197,7 @@ module _ (M : Model) (e : Encodable M) where
             (machines_no_end M.machines) (nodes_no_end M.nodes),
       )
 
-  comes : (scan_from (length (encode M)) start (encode M) ≡ Finished (after start all))
+  comes : (scan_from (length (encode M)) start (encode M) ≡ Ok (Finished (after start all)))
       × (records_from (length (encode M)) (encode M) ≡ all)
   unfolding all AllDecode
   comes =
@@ -206,7 +205,7 @@ module _ (M : Model) (e : Encodable M) where
       (decodes_end (length body), tt) in
       let c = scan_back (length (bytes_of_all all)) all start (after start all) (runs_in all start all_pass) ends d
       (omega arith) in
-      along (λ b. (scan_from (length b) start b ≡ Finished (after start all)) × (records_from (length b) b ≡ all))
+      along (λ b. (scan_from (length b) start b ≡ Ok (Finished (after start all))) × (records_from (length b) b ≡ all))
       is_encoding c
     where
       along : (P : List ℕ → Type 0) {x y : List ℕ} → x ≡ y → P x → P y

@@ -52,7 +52,7 @@ no_ends_append [] qs m n = n
 no_ends_append (r ∷ rs) qs m n = (m.0, no_ends_append rs qs m.1 n)
 
 steps_no_end : (xs : List Step) → NoEnds (map record_of_step xs)
-unfolding NoEnds map record_of_step
+unfolding NoEnds record_of_step
 steps_no_end [] = tt
 steps_no_end (step s l t ∷ xs) = (λ q. omega arith, steps_no_end xs)
 
@@ -66,7 +66,7 @@ machines_no_end (m ∷ ms) = (
 )
 
 pub nodes_no_end : (xs : List Node) → NoEnds (map record_of_node xs)
-unfolding NoEnds map record_of_node
+unfolding NoEnds record_of_node
 nodes_no_end [] = tt
 nodes_no_end (leaf_node i ∷ xs) = (λ q. omega arith, nodes_no_end xs)
 nodes_no_end (join_node i j A ∷ xs) = (λ q. omega arith, nodes_no_end xs)

@@ -20,6 +20,8 @@ pub mod NodesPass
 pub mod Stages
 pub mod Formed
 pub mod Size
+pub mod Counted
+pub mod ReadFiles
 pub mod ScanBack
 pub mod ModelBack
 pub mod EncodedBytes

@@ -1,13 +1,14 @@
 -- The records of a readable file are those of its model and an end: one header, machines each followed by its steps,
 -- nodes. Assumes nothing.
-use Rattle.std.proofs.Common.{◌≡◌, refl, sym, ap, ◌∙◌, Bool, true, false, cond, List, [], ◌∷◌, ◌++◌}
-use Rattle.std.proofs.Common.{append_assoc, ◌≢◌, ℕ, ◌+◌, arith, eqb, eqb-true}
+use Rattle.std.proofs.lemmas.Bool.Decides.{nat_tests}
+use Rattle.std.proofs.Common.{◌≡◌, refl, sym, ap, ◌∙◌, List, [], ◌∷◌, ◌++◌}
+use Rattle.std.proofs.Common.{append_assoc, ◌≢◌, ℕ, ◌+◌, arith}
 use mathlib.Core.List.{map, flat_map}
-use Rattle.network.specs.Machine.{Machine, Step, silent, event}
+use Rattle.network.specs.Machine.{Machine, Step}
 use Rattle.network.specs.Model.{Node, leaf_node, join_node, hide_node, rename_node}
 use Rattle.records.specs.declared.Record.{Record}
 use Rattle.progress.specs.declared.Progress.{Progress}
-use Rattle.records.specs.Kinds.{body_length, size_of, silent_label}
+use Rattle.records.specs.Kinds.{body_length, size_of}
 use Rattle.records.specs.Records.{machine_record, step_record, leaf_record, join_record, hide_record}
 use Rattle.records.specs.Records.{rename_record, end_record}
 use Rattle.progress.specs.Progress.{take_record}
@@ -25,11 +26,7 @@ use Rattle.reader.proofs.Plain.{AllPlain}
 -- a label's byte, read and written again
 pub code_back : (x : ℕ) → code_of (label_of x) ≡ x
 unfolding label_of code_of
-code_back x = go (eqb x silent_label) refl
-  where
-    go : (t : Bool) → eqb x silent_label ≡ t → code_of (cond t silent (event x)) ≡ x
-    go true e = sym (eqb-true x silent_label e)
-    go false e = refl
+code_back x = grind (arith, nat_tests)
 
 -- what stands behind a header: the rest of the latest machine's steps, machines with their steps, nodes, an end
 -- behind x bytes
@@ -46,7 +43,7 @@ pub record Listed (g : Progress) (rs : List Record) (h : Progress) : Type 0 wher
 module _ (g h : Progress) (rs : List Record) where
   add_machine : (c : ℕ) → g.nodes ≡ 0 → Listed (take_record g (machine_record c)) rs h
       → Listed g (machine_record c ∷ rs) h
-  unfolding steps_of machines_of nodes_of records_of_machine map flat_map
+  unfolding steps_of machines_of nodes_of records_of_machine flat_map
   add_machine c none i =
       record {
         count = i.count;
@@ -61,7 +58,7 @@ module _ (g h : Progress) (rs : List Record) where
 
   add_step : (s l t : ℕ) → g.machines ≢ 0 → g.nodes ≡ 0 → Listed (take_record g (step_record s l t)) rs h
       → Listed g (step_record s l t ∷ rs) h
-  unfolding steps_of step_of machines_of nodes_of record_of_step map
+  unfolding steps_of step_of machines_of nodes_of record_of_step
   add_step s l t some none i =
       record {
         count = i.count;
@@ -78,7 +75,7 @@ module _ (g h : Progress) (rs : List Record) where
   add_node : (r : Record) (n : Node) → (take_record g r).nodes ≢ 0 → steps_of (r ∷ rs) ≡ []
       → machines_of (r ∷ rs) ≡ machines_of rs
       → nodes_of (r ∷ rs) ≡ n ∷ nodes_of rs → record_of_node n ≡ r → Listed (take_record g r) rs h → Listed g (r ∷ rs) h
-  unfolding map flat_map
+  unfolding flat_map
   add_node r n some steps machines nodes same i =
       let only = i.nodes_only some in
       let q : rs ≡ listing [] [] (nodes_of rs) i.count =
@@ -114,7 +111,7 @@ module _ (g h : Progress) (rs : List Record) where
   add_rename x f i = add_node (rename_record x f) (rename_node x f) more refl refl refl refl i
 
 just_end : (g h : Progress) (x : ℕ) → x ≡ g.place → take_record g (end_record x) ≡ h → Listed g (end_record x ∷ []) h
-unfolding steps_of machines_of nodes_of take_record size_of body_length map flat_map
+unfolding steps_of machines_of nodes_of take_record size_of body_length flat_map
 just_end g h x q e =
     record {
       count = x;

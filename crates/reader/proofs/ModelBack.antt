@@ -23,7 +23,7 @@ module _ (x : ℕ) where
   ends ns = map record_of_node ns ++ (end_record x ∷ [])
 
   nodes_say : (ns : List Node) → (steps_of (ends ns) ≡ []) × (machines_of (ends ns) ≡ []) × (nodes_of (ends ns) ≡ ns)
-  unfolding ends map record_of_node steps_of machines_of nodes_of node_of
+  unfolding ends record_of_node steps_of machines_of nodes_of node_of
   nodes_say [] = (refl, refl, refl)
   nodes_say (leaf_node i ∷ ns) = let w = nodes_say ns in (refl, w.1, ap (λ (y : List Node). leaf_node i ∷ y) w.2)
   nodes_say (join_node i j A ∷ ns) = let w =
@@ -36,7 +36,7 @@ module _ (x : ℕ) where
 steps_say : (xs : List Step) (rs : List Record) → ((x : Step) → Memᴰ x xs → Back x) → steps_of rs ≡ []
     → (steps_of (map record_of_step xs ++ rs) ≡ xs) × (machines_of (map record_of_step xs ++ rs) ≡ machines_of rs)
     × (nodes_of (map record_of_step xs ++ rs) ≡ nodes_of rs)
-unfolding map record_of_step steps_of step_of machines_of nodes_of Back
+unfolding record_of_step steps_of step_of machines_of nodes_of Back
 steps_say [] rs b q = (q, refl, refl)
 steps_say (step s l t ∷ xs) rs b q =
     let w = steps_say xs rs (λ x m. b x (Memᴰ.tail m)) q in

@@ -16,6 +16,7 @@ use Rattle.tests.proofs.Meeting.{join_out, hide_out, rename_out}
 use Rattle.reader.specs.Encoding.{record_of_node}
 use Rattle.reader.proofs.Passes.{after}
 use Rattle.reader.proofs.Ranges.{add_count, add_other}
+use Rattle.std.specs.Prelude.{Ok}
 
 -- one node: the counts
 pub record AfterNode (g : Progress) (x : Node) (ms : List Machine) : Type 0 where
@@ -46,7 +47,7 @@ pub record AfterNodes (g : Progress) (xs : List Node) (ms : List Machine) (h : P
 
 pub after_nodes : (xs : List Node) (g : Progress) (ms : List Machine)
     → AfterNodes g xs ms (after g (map record_of_node xs))
-unfolding after map flat_map
+unfolding after flat_map
 after_nodes [] g ms =
     record {
       n_same = refl;
@@ -87,7 +88,7 @@ used_node g (hide_node i A) f k h = add_count k g.used i h f.0 ∙ omega arith
 used_node g (rename_node i t) f k h = add_count k g.used i h f.0 ∙ omega arith
 
 pub operands_free : (g : Progress) (x : Node) → g.nodes ≤ 32
-    → first_hit g (record_of_node x) (size_of (record_of_node x).kind) ≡ 0
+    → first_hit g (record_of_node x) (size_of (record_of_node x).kind) ≡ Ok tt
     → OperandsFree g x
 unfolding OperandsFree record_of_node
 operands_free g (leaf_node i) h w = tt
@@ -122,7 +123,7 @@ AllFree g (x ∷ xs) = OperandsFree g x × AllFree (take_record g (record_of_nod
 
 pub used_nodes : (xs : List Node) (g : Progress) → AllFree g xs → (k : ℕ) → k < room
     → digit (has (after g (map record_of_node xs)).used k) ≡ times k (flat_map operands xs) + digit (has g.used k)
-unfolding AllFree after map flat_map times
+unfolding AllFree after flat_map times
 used_nodes [] g f k h = omega arith
 used_nodes (x ∷ xs) g f k h =
     omega (

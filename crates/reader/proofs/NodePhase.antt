@@ -18,6 +18,7 @@ use Rattle.reader.proofs.Plain.{AllPlain}
 use Rattle.reader.proofs.Ranges.{set_out, targets_out}
 use Rattle.reader.proofs.StepPhase.{all_cons}
 use Rattle.reader.proofs.NodeAfter.{after_node, operands_free, AllFree}
+use Rattle.std.specs.Prelude.{Ok}
 
 -- the targets of a rename are filled up
 unfoldable pub NodeFilled : ℕ → Node → Type 0
@@ -27,7 +28,7 @@ NodeFilled n (hide_node i A) = Unit {0}
 NodeFilled n (rename_node i f) = TargetsFilled n f
 
 node_out : (g : Progress) (x : Node) → g.n ≤ 16 → Plain (record_of_node x)
-    → first_hit g (record_of_node x) (size_of (record_of_node x).kind) ≡ 0
+    → first_hit g (record_of_node x) (size_of (record_of_node x).kind) ≡ Ok tt
     → NodeFormed g.n g.machines g.nodes x × NodeFilled g.n x
 unfolding record_of_node NodeFormed NodeFilled
 node_out g (leaf_node i) hn p w =
@@ -68,7 +69,7 @@ fit_along n n' c c' k k' xs p q r f = rw (← p, ← q, ← r) f
 pub nodes_out : (xs : List Node) (g : Progress) → g.n ≤ 16 → AllPlain (map record_of_node xs)
     → Passes g (map record_of_node xs)
     → NodesFit g.n g.machines g.nodes xs
-unfolding AllPlain Passes map
+unfolding AllPlain Passes
 nodes_out [] g hn p w = record { formed = λ j l. absurd (omega arith); filled = λ x m. absurd (Memᴰ.not-nil m) }
 nodes_out (x ∷ xs) g hn p w =
     let a = after_node g x [] in
@@ -79,7 +80,7 @@ nodes_out (x ∷ xs) g hn p w =
 -- the operands of nodes that pass are free, each in its turn
 pub nodes_free : (xs : List Node) (g : Progress) → g.nodes + length xs ≤ 32 → Passes g (map record_of_node xs)
     → AllFree g xs
-unfolding AllFree Passes map
+unfolding AllFree Passes
 nodes_free [] g h w = tt
 nodes_free (x ∷ xs) g h w = (
   operands_free g x (omega arith) w.0,

@@ -1,7 +1,8 @@
 -- Nodes in range, each an operand at most once, pass the tests where there is room for them.
 -- Assumes nothing.
-use Rattle.std.proofs.Common.{◌≡◌, refl, sym, ap, ◌∙◌, Bool, true, false, ◌≢◌, List, [], ◌∷◌, ◌++◌, ℕ, suc, ◌+◌}
-use Rattle.std.proofs.Common.{◌≤◌, ◌<◌, arith, eqb, length, get_or, length-append, eq-eqb}
+use Rattle.std.proofs.lemmas.Bool.Decides.{nat_tests}
+use Rattle.std.proofs.Common.{◌≡◌, refl, sym, ◌∙◌, false, ◌≢◌, List, [], ◌∷◌, ◌++◌, ℕ, suc, ◌+◌}
+use Rattle.std.proofs.Common.{◌≤◌, ◌<◌, arith, length, get_or, length-append}
 use mathlib.Core.List.Memᴰ
 use mathlib.Core.List.{map, flat_map}
 use Rattle.events.specs.Sets.{room, has, digit}
@@ -20,32 +21,24 @@ use Rattle.reader.proofs.Passes.{Passes}
 use Rattle.reader.proofs.Ranges.{set_in, targets_in}
 use Rattle.reader.proofs.NodeAfter.{after_node, OperandsFree, used_node, times_append}
 use Rattle.reader.proofs.NodePhase.{NodeFilled, NodesFit, fit_along}
+use Rattle.std.specs.Prelude.{Ok}
 
 -- each number is used or named at most once
 abbrev pub OnceMore : Progress → List ℕ → Type 0
 OnceMore g xs = (k : ℕ) → k < room → digit (has g.used k) + times k xs ≤ 1
 
-no_digit : (b : Bool) → digit b + 1 ≤ 1 → b ≡ false
-no_digit false h = refl
-no_digit true h = absurd (omega arith)
-
 -- an operand that is named is not used yet
 free_first : (g : Progress) (i : ℕ) (xs : List ℕ) → i < room → OnceMore g (i ∷ xs) → has g.used i ≡ false
 unfolding times
-free_first g i xs h f =
-    let q : digit (eqb i i) ≡ 1 = ap digit (eq-eqb i i refl) in no_digit (has g.used i) (omega (arith, f i h))
+free_first g i xs h f = grind (arith, nat_tests, f i h)
 
 free_second : (g : Progress) (i j : ℕ) (xs : List ℕ) → j < room → OnceMore g (i ∷ j ∷ xs) → has g.used j ≡ false
 unfolding times
-free_second g i j xs h f =
-    let q : digit (eqb j j) ≡ 1 = ap digit (eq-eqb j j refl) in no_digit (has g.used j) (omega (arith, f j h))
+free_second g i j xs h f = grind (arith, nat_tests, f j h)
 
 two_apart : (g : Progress) (i j : ℕ) (xs : List ℕ) → i < room → OnceMore g (i ∷ j ∷ xs) → i ≢ j
 unfolding times
-two_apart g i j xs h f e =
-    let p : digit (eqb i i) ≡ 1 = ap digit (eq-eqb i i refl) in
-    let q : digit (eqb j i) ≡ 1 = ap digit (eq-eqb j i (sym e)) in
-    omega (arith, f i h)
+two_apart g i j xs h f e = grind (arith, nat_tests, f i h)
 
 -- one node
 module _ (g : Progress) (may : NodeMay g) (hn : g.n ≤ 16) where
@@ -64,7 +57,7 @@ module _ (g : Progress) (may : NodeMay g) (hn : g.n ≤ 16) where
 
   node_passes : (x : Node) (ms : List Machine) → g.leaves + length (own_machine ms x) ≤ 12
       → NodeFormed g.n g.machines g.nodes x
-      → NodeFilled g.n x → OperandsFree g x → first_hit g (record_of_node x) (size_of (record_of_node x).kind) ≡ 0
+      → NodeFilled g.n x → OperandsFree g x → first_hit g (record_of_node x) (size_of (record_of_node x).kind) ≡ Ok tt
   unfolding NodeFormed NodeFilled OperandsFree record_of_node own_machine
   node_passes (leaf_node i) ms few f t o =
       met_in g (leaf_record i) (leaf_met refl (record { may = may; leaf_room = omega arith; machine_below = f }))
@@ -104,7 +97,7 @@ fit_tail n c k x xs f = record { formed = formed; filled = λ y m. f.filled y (M
 pub nodes_in : (xs : List Node) (g : Progress) (ms : List Machine) → g.n ≢ 0 → g.machines ≢ 0 → g.n ≤ 16
     → g.nodes + length xs ≤ 32 → g.leaves + length (flat_map (own_machine ms) xs) ≤ 12
     → NodesFit g.n g.machines g.nodes xs → OnceMore g (flat_map operands xs) → Passes g (map record_of_node xs)
-unfolding Passes map flat_map
+unfolding Passes flat_map
 nodes_in [] g ms n0 m0 hn few leaves f o = tt
 nodes_in (x ∷ xs) g ms n0 m0 hn few leaves f o =
     let may : NodeMay g = record { has_header = n0; some_machine = m0; node_room = omega arith } in

@@ -45,7 +45,7 @@ pub record IsListing (rs : List Record) (h : Progress) : Type 0 where
 
 behind_header : (n : ℕ) (rs : List Record) (h : Progress) → n ≢ 0 → Listed (take_record start (header_record n)) rs h
     → IsListing (header_record n ∷ rs) h
-unfolding model_records model_of event_count machines_of nodes_of take_record start map
+unfolding model_records model_of event_count machines_of nodes_of take_record start
 behind_header n rs h some i =
     let q : rs ≡ listing [] (machines_of rs) (nodes_of rs) i.count =
     i.listed ∙ ap (λ xs. listing xs (machines_of rs) (nodes_of rs) i.count) (i.no_step_first refl) in

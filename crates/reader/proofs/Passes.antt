@@ -9,6 +9,7 @@ use Rattle.tests.specs.FirstHit.{first_hit}
 use Rattle.tests.proofs.Passing.{passed_out}
 use Rattle.tests.proofs.Limits.{Counts, counts_keep}
 use Rattle.reader.proofs.Records.{Runs}
+use Rattle.std.specs.Prelude.{Ok}
 
 -- what is read once the records are taken
 unfoldable pub after : Progress → List Record → Progress
@@ -18,7 +19,7 @@ after g (r ∷ rs) = after (take_record g r) rs
 -- the records meet no test, one after another
 unfoldable pub Passes : Progress → List Record → Type 0
 Passes g [] = Unit {0}
-Passes g (r ∷ rs) = (first_hit g r (size_of r.kind) ≡ 0) × Passes (take_record g r) rs
+Passes g (r ∷ rs) = (first_hit g r (size_of r.kind) ≡ Ok tt) × Passes (take_record g r) rs
 
 pub runs_out : (rs : List Record) (g h : Progress) → Runs g rs h → Passes g rs × (after g rs ≡ h)
 unfolding Runs Passes after

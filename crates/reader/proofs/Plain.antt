@@ -14,6 +14,7 @@ use Rattle.reader.specs.File.{records_from}
 use Rattle.reader.proofs.Turns.{rest, Then, Turn, turn_out, turn_passed, turn_whole, none_finished}
 use Rattle.reader.proofs.Records.{end_known}
 use Rattle.reader.proofs.Bytes.{bytes_drop}
+use Rattle.std.specs.Prelude.{Ok}
 
 unfoldable pub AllPlain : List Record → Type 0
 AllPlain [] = Unit {0}
@@ -29,7 +30,7 @@ records_plain (suc f) b w =
     go true ih = tt
     go false ih = (first_plain b w, ih)
 
-pub finish_place : (f : ℕ) (g h : Progress) (b : List ℕ) → scan_from f g b ≡ Finished h → h.place ≡ g.place + length b
+pub finish_place : (f : ℕ) (g h : Progress) (b : List ℕ) → scan_from f g b ≡ Ok (Finished h) → h.place ≡ g.place + length b
 unfolding take_record size_of body_length
 finish_place zero g h b e = none_finished g h b e
 finish_place (suc f) g h b e = go k.then (λ g' b' e'. finish_place f g' h b' e')
@@ -38,7 +39,7 @@ finish_place (suc f) g h b e = go k.then (λ g' b' e'. finish_place f g' h b' e'
     k = turn_out f g b h e
 
     go : Then f g b h
-        → ((g' : Progress) (b' : List ℕ) → scan_from f g' b' ≡ Finished h → h.place ≡ g'.place + length b')
+        → ((g' : Progress) (b' : List ℕ) → scan_from f g' b' ≡ Ok (Finished h) → h.place ≡ g'.place + length b')
         → h.place ≡ g.place + length b
     go (inl w) again =
         let size : size_of (first_record b).kind ≡ 3 = ap size_of w.0 in

@@ -19,6 +19,7 @@ use Rattle.reader.specs.Encoding.{bytes_of_all}
 use Rattle.reader.proofs.Turns.{rest, scan_finished, scan_next}
 use Rattle.reader.proofs.Records.{none_left, records_next, Runs, EndsOnce}
 use Rattle.reader.proofs.Passes.{after}
+use Rattle.std.specs.Prelude.{Ok}
 
 unfoldable pub AllDecode : List Record → Type 0
 AllDecode [] = Unit {0}
@@ -51,33 +52,33 @@ module _ (r : Record) (b : List ℕ) (d : Decodes r) where
 
 -- both halves of what is claimed
 abbrev Comes : ℕ → Progress → List Record → Progress → Type 0
-Comes f g rs h = (scan_from f g (bytes_of_all rs) ≡ Finished h) × (records_from f (bytes_of_all rs) ≡ rs)
+Comes f g rs h = (scan_from f g (bytes_of_all rs) ≡ Ok (Finished h)) × (records_from f (bytes_of_all rs) ≡ rs)
 
-last_comes : (f : ℕ) (g h : Progress) (r : Record) → Decodes r → first_hit g r (size_of r.kind) ≡ 0 → r.kind ≡ end_kind
+last_comes : (f : ℕ) (g h : Progress) (r : Record) → Decodes r → first_hit g r (size_of r.kind) ≡ Ok tt → r.kind ≡ end_kind
     → take_record g r ≡ h → Comes (suc f) g (r ∷ []) h
 unfolding flat_map
 last_comes f g h r d w k e =
     let b = bytes_of r ++ [] in
     let q : first_record b ≡ r = d.comes_back [] in
     let l : length b ≡ size_of r.kind = long r [] d ∙ omega arith in
-    let t : first_hit g (first_record b) (length b) ≡ 0 = rw (q, l) w in (
+    let t : first_hit g (first_record b) (length b) ≡ Ok tt = rw (q, l) w in (
       scan_finished f g b (some r [] d) t (ap (λ (x : Record). x.kind) q ∙ k)
-          ∙ ap (λ (x : Record). Finished (take_record g x)) q ∙ ap Finished e,
+          ∙ ap (λ (x : Record). Ok (Finished (take_record g x))) q ∙ ap (λ (x : Progress). Ok (Finished x)) e,
       records_next f b (some r [] d) ∙ ap (λ (x : Record). x ∷ records_from f (rest b)) q
           ∙ ap (λ (x : List Record). r ∷ x) (none_left f (rest b) (ap length (behind r [] d))),
     )
 
-next_comes : (f : ℕ) (g h : Progress) (r : Record) (rs : List Record) → Decodes r → first_hit g r (size_of r.kind) ≡ 0
+next_comes : (f : ℕ) (g h : Progress) (r : Record) (rs : List Record) → Decodes r → first_hit g r (size_of r.kind) ≡ Ok tt
     → r.kind ≢ end_kind → Comes f (take_record g r) rs h → Comes (suc f) g (r ∷ rs) h
 unfolding flat_map
 next_comes f g h r rs d w k i =
     let b = bytes_of r ++ bytes_of_all rs in
     let q : first_record b ≡ r = d.comes_back (bytes_of_all rs) in
     let l = long r (bytes_of_all rs) d in
-    let u : first_hit g r (length b) ≡ 0 =
+    let u : first_hit g r (length b) ≡ Ok tt =
     pass_with g r (length b) (size_of r.kind) (passed_out g r (size_of r.kind) w)
     (le-ltb (length b) (size_of r.kind) (omega (arith, l))) (rw (ne_eqb r.kind end_kind k)) in
-    let t : first_hit g (first_record b) (length b) ≡ 0 = ap (λ (x : Record). first_hit g x (length b)) q ∙ u in (
+    let t : first_hit g (first_record b) (length b) ≡ Ok tt = ap (λ (x : Record). first_hit g x (length b)) q ∙ u in (
       scan_next f g b (some r (bytes_of_all rs) d) t (λ z. k (sym (ap (λ (x : Record). x.kind) q) ∙ z))
           ∙ ap (λ (x : Record). scan_from f (take_record g x) (rest b)) q
           ∙ ap (scan_from f (take_record g r)) (behind r (bytes_of_all rs) d) ∙ i.0,

@@ -15,7 +15,7 @@ use Rattle.reader.proofs.OneEncoding.{bytes_append, one_encoding}
 use Rattle.reader.proofs.Formed.{model_formed}
 
 steps_size : (xs : List Step) → length (bytes_of_all (map record_of_step xs)) ≡ 4 * length xs
-unfolding map flat_map record_of_step bytes_of
+unfolding flat_map record_of_step bytes_of
 steps_size [] = refl
 steps_size (step s l t ∷ xs) = omega (arith, steps_size xs)
 
@@ -49,7 +49,7 @@ nodes_size : (n : ℕ) (xs : List Node) (ms : List Machine)
     → ((i : ℕ) (f : List ℕ) → Memᴰ (rename_node i f) xs → TargetsFilled n f)
     → (2 * length xs ≤ length (bytes_of_all (map record_of_node xs)))
     × (length (bytes_of_all (map record_of_node xs)) + 16 * length (flat_map (own_machine ms) xs) ≤ 18 * length xs)
-unfolding map flat_map
+unfolding flat_map
 nodes_size n [] ms f = (omega arith, omega arith)
 nodes_size n (x ∷ xs) ms f =
     let a = node_size n x ms (λ i t q. f i t (Memᴰ.head (sym q))) in

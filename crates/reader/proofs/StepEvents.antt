@@ -1,10 +1,10 @@
 -- The events that steps add to a set one by one are the set of the events that the machine uses; and how many they are.
 -- Assumes nothing.
-use Rattle.std.proofs.Common.{◌≡◌, refl, sym, ap, ◌∙◌, Bool, true, false, ◌||◌, List, [], ◌∷◌, ℕ, zero, suc, ◌^◌}
-use Rattle.std.proofs.Common.{◌≤◌, ◌<◌, arith, T, eqb, pow_mono, eqb-true, eq-eqb, ne_eqb}
+use Rattle.std.proofs.lemmas.Bool.Decides.{nat_tests}
+use Rattle.std.proofs.Common.{◌≡◌, refl, sym, ap, ◌∙◌, Bool, false, ◌||◌, List, [], ◌∷◌, ℕ, zero, suc, ◌^◌}
+use Rattle.std.proofs.Common.{◌≤◌, ◌<◌, arith, T, eqb, pow_mono}
 use mathlib.Core.List.{Memᴰ}
 use native.Mathlib.Decide.{dec_lt}
-use borrow.Author.Tests.{eqb-false}
 use Rattle.events.specs.Sets.{room, has, digit, set_of, single, count}
 use Rattle.events.proofs.Booleans.{or_left}
 use Rattle.events.proofs.Members.{set_of_has, set_of_below, has_ext}
@@ -22,13 +22,6 @@ unfoldable pub events_with : ℕ → List Step → ℕ
 events_with s [] = s
 events_with s (step x l y ∷ xs) = events_with (with s (code_of l)) xs
 
-same_test : (d e : ℕ) → eqb e d ≡ eqb d e
-same_test d e = go (eqb d e) refl
-  where
-    go : (b : Bool) → eqb d e ≡ b → eqb e d ≡ b
-    go true q = eq-eqb e d (sym (eqb-true d e q))
-    go false q = ne_eqb e d (λ r. eqb-false d e q (sym r))
-
 pub with_has : (s d e : ℕ) → e < room → has (with s d) e ≡ (has s e || eqb e d)
 with_has s d e h =
     set_of_has room (λ e. has s e || has (single room d) e) e h
@@ -39,8 +32,8 @@ with_below s d = set_of_below room (λ e. has s e || has (single room d) e)
 
 label_test : (l : Label) (e : ℕ) → e < room → eqb e (code_of l) ≡ is_label e l
 unfolding code_of is_label
-label_test silent e h = ne_eqb e 255 (λ q. omega arith)
-label_test (event d) e h = same_test d e
+label_test silent e h = grind (arith, nat_tests)
+label_test (event d) e h = grind (arith, nat_tests)
 
 events_has : (xs : List Step) (s e : ℕ) → e < room → has (events_with s xs) e ≡ (has s e || labels e xs)
 unfolding events_with labels
@@ -60,7 +53,7 @@ events_below (step x l y ∷ xs) s h = events_below xs (with s (code_of l)) (wit
 other_label : (n : ℕ) (l : Label) (e : ℕ) → n ≤ e → LabelBelow n l → is_label e l ≡ false
 unfolding is_label LabelBelow
 other_label n silent e h b = refl
-other_label n (event d) e h b = ne_eqb d e (λ q. omega arith)
+other_label n (event d) e h b = grind (arith, nat_tests)
 
 no_label : (n c : ℕ) (xs : List Step) (e : ℕ) → n ≤ e → ((x : Step) → Memᴰ x xs → StepFormed n c x)
     → labels e xs ≡ false
@@ -99,9 +92,7 @@ module _ (n : ℕ) (m : Machine) (hn : n ≤ 16) (f : (x : Step) → Memᴰ x m.
 
 -- more events, a greater count
 digit_mono : (a b : Bool) → (T a → T b) → digit a ≤ digit b
-digit_mono false b h = omega arith
-digit_mono true true h = omega arith
-digit_mono true false h = absurd (h tt)
+digit_mono a b h = grind arith
 
 count_mono : (n s t : ℕ) → ((e : ℕ) → e < n → T (has s e) → T (has t e)) → count n s ≤ count n t
 unfolding count

@@ -34,7 +34,7 @@ pub record AfterSteps (g : Progress) (xs : List Step) (h : Progress) : Type 0 wh
   pub used_same : h.used ≡ g.used
 
 pub after_steps : (xs : List Step) (g : Progress) → AfterSteps g xs (after g (map record_of_step xs))
-unfolding after map record_of_step take_record used_with
+unfolding after record_of_step take_record used_with
 after_steps [] g =
     record {
       n_same = refl;
@@ -90,7 +90,7 @@ label_code n (event e) b = inl b
 -- steps that pass fit; of their machine at most 32 states are known, and n is at most 16
 pub steps_out : (xs : List Step) (g : Progress) → g.n ≤ 16 → g.states ≤ 32 → count room g.events ≤ 8
     → ((x : Step) → Memᴰ x xs → Back x) → Passes g (map record_of_step xs) → StepsFit g xs
-unfolding Passes map record_of_step take_record StepsAscend StepFormed Back events_with
+unfolding Passes record_of_step take_record StepsAscend StepFormed Back events_with
 steps_out [] g hn hc he b w =
     record {
       formed = λ x m. absurd (Memᴰ.not-nil m);
@@ -128,7 +128,7 @@ steps_out (step s l t ∷ xs) g hn hc he b w =
 -- steps that fit pass, where there is room for them
 pub steps_in : (xs : List Step) (g : Progress) → g.n ≢ 0 → g.machines ≢ 0 → g.nodes ≡ 0 → g.n ≤ 16 → g.states ≤ 32
     → g.steps + length xs ≤ 512 → StepsFit g xs → Passes g (map record_of_step xs)
-unfolding Passes map record_of_step take_record StepsAscend StepFormed events_with
+unfolding Passes record_of_step take_record StepsAscend StepFormed events_with
 steps_in [] g n0 ms nn hn hc room f = tt
 steps_in (step s l t ∷ xs) g n0 ms nn hn hc few f =
     let r = step_record s (code_of l) t in

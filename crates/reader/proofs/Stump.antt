@@ -1,18 +1,19 @@
 -- Demand 1, second half: bytes with a whole readable file behind them are refused. An end record's count is the
 -- number of bytes before it and nothing follows it: so the last two bytes settle how long a readable file is. Assumes
 -- nothing.
-use Rattle.std.proofs.Common.{◌≡◌, sym, ap, ◌∙◌, List, [], ◌∷◌, ◌++◌, inl, inr, ℕ, zero, suc, ◌+◌, ◌-◌, ◌≤◌, ◌<◌}
+use Rattle.std.proofs.lemmas.Bool.Decides.{nat_tests}
+use Rattle.std.proofs.Common.{◌≡◌, ap, ◌∙◌, List, ◌++◌, inl, inr, ℕ, zero, suc, ◌+◌, ◌-◌, ◌≤◌, ◌<◌}
 use Rattle.std.proofs.Common.{arith, length, drop, length-drop, length-append, get_or-append-add, get_or-drop}
 use Rattle.progress.specs.declared.Progress.{Progress}
 use Rattle.records.specs.Kinds.{body_length, size_of, end_kind}
 use Rattle.decoding.specs.Bytes.{byte, two, record_of, first_record}
 use Rattle.progress.specs.Progress.{start, take_record}
-use Rattle.decoding.proofs.Bytes.{first_kind}
 use Rattle.reader.specs.declared.Scan.TheVariants.{Finished}
 use Rattle.reader.specs.Scan.{scan_from, scan_of, readable, refused, says}
 use Rattle.reader.proofs.Turns.{rest, Then, Turn, turn_out, turn_passed, turn_whole, none_finished}
 use Rattle.reader.proofs.Records.{end_known}
 use Rattle.reader.proofs.Readings.{readable_out, refused_in}
+use Rattle.std.specs.Prelude.{Ok}
 
 -- the number that the last two bytes say
 abbrev last_two : List ℕ → ℕ
@@ -21,14 +22,7 @@ last_two b = two (byte b (length b - 2)) (byte b (length b - 1))
 -- an end record's number stands in its last two bytes
 end_number : (b : List ℕ) → length b ≡ 3 → (first_record b).kind ≡ end_kind → (first_record b).number ≡ last_two b
 unfolding first_record record_of size_of body_length
-end_number [] h k = absurd (omega arith)
-end_number (x ∷ []) h k = absurd (omega arith)
-end_number (x ∷ y ∷ []) h k = absurd (omega arith)
-end_number (x ∷ y ∷ z ∷ w ∷ t) h k = absurd (omega arith)
-end_number (x ∷ y ∷ z ∷ []) h k = go x (sym (first_kind x (y ∷ z ∷ [])) ∙ k)
-  where
-    go : (x : ℕ) → x ≡ end_kind → (first_record (x ∷ y ∷ z ∷ [])).number ≡ two y z
-    go x q = rw q
+end_number b h k = grind (arith, nat_tests)
 
 -- what is claimed of a scan that finished: the last two bytes are the number of bytes before the last three
 abbrev Counted : Progress → List ℕ → Type 0
@@ -48,7 +42,7 @@ counted_later p n b l z =
     get_or-drop n b (length (drop n b) - 1) 0 ∙ ap (λ (m : ℕ). byte b m) j in
     (omega (arith, z.0), omega (arith, z.0, z.1))
 
-counted : (f : ℕ) (g h : Progress) (b : List ℕ) → scan_from f g b ≡ Finished h → Counted g b
+counted : (f : ℕ) (g h : Progress) (b : List ℕ) → scan_from f g b ≡ Ok (Finished h) → Counted g b
 unfolding take_record
 counted zero g h b e = none_finished g h b e
 counted (suc f) g h b e = go k.then (λ g' b' e'. counted f g' h b' e')
@@ -56,7 +50,7 @@ counted (suc f) g h b e = go k.then (λ g' b' e'. counted f g' h b' e')
     k : Turn f g b h
     k = turn_out f g b h e
 
-    go : Then f g b h → ((g' : Progress) (b' : List ℕ) → scan_from f g' b' ≡ Finished h → Counted g' b') → Counted g b
+    go : Then f g b h → ((g' : Progress) (b' : List ℕ) → scan_from f g' b' ≡ Ok (Finished h) → Counted g' b') → Counted g b
     go (inl w) again =
         let z = end_known g b (turn_passed f g b h k) w.0 in
         let q = end_number b z.0 w.0 in

@@ -1,6 +1,6 @@
 -- The sizes of records, kind by kind.
 -- Assumes nothing.
-use Rattle.std.proofs.Common.{◌≡◌, refl, ap, [], ◌∷◌, Bool, true, false, ◌≢◌, ℕ, zero, suc, ◌≤◌, arith, ltb}
+use Rattle.std.proofs.Common.{◌≡◌, refl, ap, [], ◌∷◌, Bool, true, false, ℕ, zero, suc, ◌≤◌, ◌<◌, arith, ltb}
 use Rattle.std.proofs.Common.{ltb-true, ltb-false}
 use lib.ListN.{get_or-eq_default}
 use Rattle.records.specs.Kinds.{body_length, size_of}
@@ -23,19 +23,10 @@ unfolding size_of body_length
 size_beyond k h = ap suc (get_or-eq_default (0 ∷ 1 ∷ 1 ∷ 3 ∷ 1 ∷ 4 ∷ 3 ∷ 17 ∷ 2 ∷ []) 0 h)
 
 -- a number that is no kind's
-pub size_other : (k : ℕ) → k ≢ 1 → k ≢ 2 → k ≢ 3 → k ≢ 4 → k ≢ 5 → k ≢ 6 → k ≢ 7 → k ≢ 8 → size_of k ≡ 1
+pub size_other : (k : ℕ) → (1 ≤ k → 8 < k) → size_of k ≡ 1
 unfolding size_of body_length
-size_other zero a b c d e f g h = refl
-size_other (suc zero) a b c d e f g h = absurd (a refl)
-size_other (suc (suc zero)) a b c d e f g h = absurd (b refl)
-size_other (suc (suc (suc zero))) a b c d e f g h = absurd (c refl)
-size_other (suc (suc (suc (suc zero)))) a b c d e f g h = absurd (d refl)
-size_other (suc (suc (suc (suc (suc zero))))) a b c d e f g h = absurd (e refl)
-size_other (suc (suc (suc (suc (suc (suc zero)))))) a b c d e f g h = absurd (f refl)
-size_other (suc (suc (suc (suc (suc (suc (suc zero))))))) a b c d e f g h = absurd (g refl)
-size_other (suc (suc (suc (suc (suc (suc (suc (suc zero)))))))) a b c d e f g h = absurd (h refl)
-size_other (suc (suc (suc (suc (suc (suc (suc (suc (suc k))))))))) a b c d e f g h =
-    size_beyond (suc (suc (suc (suc (suc (suc (suc (suc (suc k))))))))) (omega arith)
+size_other zero q = refl
+size_other (suc k) q = size_beyond (suc k) (q (omega arith))
 
 pub size_positive : (k : ℕ) → 1 ≤ size_of k
 unfolding size_of

@@ -1,38 +1,20 @@
--- The entries of a section before its first zero, counted one by one. Assumes nothing.
-use Rattle.std.proofs.Common.{◌≡◌, ap, ◌∙◌, Bool, true, false, cond, List, [], ◌∷◌, ℕ, suc, ◌+◌, ◌≤◌, ◌<◌, arith}
-use Rattle.std.proofs.Common.{add-one, eqb, length, drop, get_or, drop_of_length-le, drop-cons, eq-eqb, ne_eqb}
+-- A section's pairs are its entries before the first zero. Assumes nothing.
+use Rattle.std.proofs.Common.{rules, arith, ◌≡◌, ◌≤◌, refl, List, ℕ, length, not}
+use Rattle.std.specs.Prelude.{◌==◌, position}
+use Rattle.std.specs.List.{position_or_len}
+use Rattle.std.specs.Option.{unwrap_or}
+use Rattle.std.proofs.lemmas.Grind.{common_steps}
+use Rattle.std.proofs.lemmas.List.Recursion.{is_position_or_len}
+use Rattle.std.proofs.lemmas.List.Sums.{prefix_len-le-length}
 use Rattle.report.specs.Text.{pair_count}
 
--- the first i entries are counted, and what is behind them is to come
-abbrev pub Counted : List ℕ → ℕ → Type 0
-Counted xs i = pair_count xs ≡ i + pair_count (drop i xs)
-
-pub count_start : (xs : List ℕ) → Counted xs 0
-count_start xs = omega arith
-
-pub count_zero : (xs : List ℕ) (i : ℕ) → Counted xs i → i < length xs → get_or xs i 0 ≡ 0 → i ≡ pair_count xs
+count_is : (xs : List ℕ) → pair_count xs ≡ position_or_len (λ x. x == 0) xs
 unfolding pair_count
-count_zero xs i q h z =
-    let e : pair_count (drop i xs) ≡ 0 = ap pair_count (drop-cons xs i 0 h) ∙ rw (eq-eqb (get_or xs i 0) 0 z) in
-    omega arith
+count_is = is_position_or_len pair_count (λ x. x == 0) refl (λ x xs. search rules)
 
-pub count_on : (xs : List ℕ) (i : ℕ) → Counted xs i → i < length xs → (get_or xs i 0 ≡ 0 → ⊥) → Counted xs (i + 1)
-unfolding pair_count
-count_on xs i q h z =
-    let e : pair_count (drop i xs) ≡ suc (pair_count (drop (suc i) xs)) =
-    ap pair_count (drop-cons xs i 0 h) ∙ rw (ne_eqb (get_or xs i 0) 0 z) in
-    rw (add-one i) (omega arith)
-
-pub count_end : (xs : List ℕ) (i : ℕ) → Counted xs i → length xs ≤ i → i ≡ pair_count xs
-unfolding pair_count
-count_end xs i q h = let e : pair_count (drop i xs) ≡ 0 = ap pair_count (drop_of_length-le xs h) in omega arith
+pub counted : (xs : List ℕ) → unwrap_or (position (λ x. x == 0) xs) (length xs) ≡ pair_count xs
+counted xs = rw (count_is xs) (grind (arith, common_steps, prefix_len-le-length (λ x. not (x == 0)) xs))
 
 -- a section has no more pairs than entries
 pub count_within : (xs : List ℕ) → pair_count xs ≤ length xs
-unfolding pair_count
-count_within [] = omega arith
-count_within (x ∷ xs) = at (eqb x 0) (count_within xs)
-  where
-    at : (b : Bool) → pair_count xs ≤ length xs → cond b 0 (suc (pair_count xs)) ≤ suc (length xs)
-    at true h = omega arith
-    at false h = omega arith
+count_within xs = rw (count_is xs) (prefix_len-le-length (λ x. not (x == 0)) xs)

@@ -1,7 +1,4 @@
 pub mod Decimals
-pub mod Layings
-pub mod Filling
-pub mod Standing
 pub mod Counting
 pub mod Example
 pub mod Long

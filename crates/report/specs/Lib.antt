@@ -2,4 +2,3 @@ pub mod Text
 pub mod Printed
 pub mod Example
 pub mod Promise
-pub mod Laying

@@ -1,20 +1,21 @@
 -- The whole printed result for a file's bytes. Document 01, "The printed result". Assumes nothing.
 use mathlib.Core.List.{List, [], ◌++◌, flat_map}
-use Rattle.std.specs.Prelude.{ℕ, zero, suc, length, get_or}
+use Rattle.std.specs.Prelude.{ℕ, zero, suc, length, get_or, Result, Ok, Err}
 use Rattle.network.specs.Model.{Node, leaf_node, join_node, hide_node, rename_node, Model, node_network}
 use Rattle.network.specs.Lists.{list_of}
 use Rattle.network.specs.Verdict.{Verdict, pass, inconclusive, refused, verdict}
 use Rattle.records.specs.Kinds.{leaf_kind, join_kind, hide_kind, rename_kind}
-use Rattle.reader.specs.declared.Reading.{Reading}
-use Rattle.reader.specs.declared.Reading.TheVariants.{Readable, Unreadable}
 use Rattle.reader.specs.Scan.{reading_of}
 use Rattle.reader.specs.File.{file_model}
 use Rattle.report.specs.Text.{first_line, node_line, pair_line}
+use Rattle.tests.specs.declared.Refusal.{Refusal}
+use Rattle.progress.specs.declared.Progress.{Progress}
+use Rattle.tests.specs.Reasons.{number_of}
 
 -- the verdict on the bytes s, read as far as the reading says, in an area with room enough
-unfoldable pub verdict_at : Reading → List ℕ → Verdict
-verdict_at (Unreadable f) s = refused f.number f.place
-verdict_at (Readable g) s = verdict (file_model s)
+unfoldable pub verdict_at : Result Progress Refusal → List ℕ → Verdict
+verdict_at (Err f) s = refused (number_of f.reason) f.place
+verdict_at (Ok g) s = verdict (file_model s)
 
 -- the kind of a node, by the number of its record's kind
 unfoldable pub kind_of : Node → ℕ

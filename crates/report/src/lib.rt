@@ -1,198 +1,148 @@
-// The lines of the printed result: each function gives document 01's text of one, in bytes.
+// The lines of the printed result: each function gives document 01's text of one.
 #![tactic(auto)]
 
 ghost use Rattle.std.specs.Prelude.{◌≡◌, [], ◌∷◌, ◌++◌, ◌<◌, ◌≤◌, ◌+◌, length};
-ghost use Rattle.network.specs.Verdict.{pass, inconclusive, refused};
+ghost use Rattle.arrayvec.specs.ArrayVec.{array_vec_len};
+ghost use Rattle.network.specs.Verdict.{refused};
 ghost use Rattle.verdict.specs.Answers.{verdict_of};
-ghost use Rattle.report.specs.Text.{decimal, hex_digit, kind_name, first_line, node_line, pair_line, framed};
+ghost use Rattle.report.specs.Text.{decimal, hex_digit, hex, kind_name, line, first_line, node_line, pair_line};
 ghost use Rattle.report.specs.Text.{pair_count};
-ghost use Rattle.report.specs.Laying.{Laid};
 
-use verdict::Answer;
+pub mod promises;
 
-// A line, its line feed included, then zeros; how many bytes it has.
-#[derive(Clone, Copy)]
-pub struct Line {
-    pub bytes: [u8; 40],
-    pub length: usize,
+use arrayvec::ArrayVec;
+use itoa::Buffer;
+use records::Kind;
+use tests::Refusal;
+use verdict::Verdict;
+
+// A line, its line feed included.
+// By hand: no Display, whose `fmt` may fail; that a line can't fail is what `first_line` and the others promise.
+pub type Line = ArrayVec<u8, 40>;
+
+// A word behind what the line has.
+fn push_word(line: &mut Line, word: &str)
+    requires { array_vec_len line.old + length word.now ≤ 40 }
+    ensures { line.new.items ≡ line.old.items ++ word.now }
+{
+    line.try_extend_from_slice(word.as_bytes()).unwrap();
 }
 
-// The word at a place of the line; where it ends.
-fn put_word(bytes: &mut [u8; 40], at: usize, word: &[u8]) -> usize
-    requires { at + length word.now ≤ 40 }
-    ensures { Laid bytes.old at word.now bytes.new result }
+// The line of a verdict on the network: its word and its number.
+fn verdict_line(word: &str, n: u64) -> Line
+    requires { length word.now ≤ 18 }
+    ensures { result.items ≡ line (word.now ∷ decimal n ∷ []) }
 {
-    let mut i = 0;
-    while i < word.len() {
-        bytes[at + i] = word[i];
-        i += 1;
-    }
-    at + i
+    let mut digits = Buffer::new();
+    let mut line = Line::new();
+    push_word(&mut line, word);
+    line.push(b' ');
+    push_word(&mut line, digits.format(n));
+    line.push(b'\n');
+    line
 }
 
-// How many decimal digits n has.
-fn digit_count(n: u64) -> usize
-    ensures { result ≡ length (decimal n) }
+// The line of a refusal: its number, as it is printed, and its place; for every number, also one that no reason has.
+pub fn refused_line(number: u32, place: usize) -> Line
+    ensures { result.items ≡ first_line (refused number place) }
 {
-    let mut count = 1;
-    let mut rest = n;
-    while 10 <= rest {
-        rest = rest / 10;
-        count += 1;
-    }
-    count
-}
-
-// The number n at a place of the line and one byte behind it; where that ends. The digits are filled in from the last.
-fn put_number(bytes: &mut [u8; 40], at: usize, n: u64, behind: u8) -> usize
-    requires { at + length (decimal n) < 40 }
-    ensures { Laid bytes.old at (decimal n ++ (behind ∷ [])) bytes.new result }
-{
-    let end = at + digit_count(n);
-    let mut i = end;
-    let mut rest = n;
-    while at < i {
-        i -= 1;
-        bytes[i] = 48 + (rest % 10) as u8;
-        rest = rest / 10;
-    }
-    bytes[end] = behind;
-    end + 1
-}
-
-// The name of a node's kind at a place of the line; where it ends.
-fn put_kind(bytes: &mut [u8; 40], at: usize, kind: u32) -> usize
-    requires { at + 6 ≤ 40 }
-    ensures { Laid bytes.old at (kind_name kind) bytes.new result }
-{
-    if kind == records::LEAF {
-        return put_word(bytes, at, b"leaf");
-    }
-    if kind == records::JOIN {
-        return put_word(bytes, at, b"join");
-    }
-    if kind == records::HIDE {
-        return put_word(bytes, at, b"hide");
-    }
-    if kind == records::RENAME {
-        return put_word(bytes, at, b"rename");
-    }
-    at
-}
-
-// The first line of each verdict.
-fn pass_line(bound: u64) -> Line
-    ensures { (result.bytes ≡ framed (first_line (pass bound))) × (result.length ≡ length (first_line (pass bound))) }
-{
-    let mut bytes = [0u8; 40];
-    let at = put_word(&mut bytes, 0, b"pass ");
-    let end = put_number(&mut bytes, at, bound, b'\n');
-    Line {
-        bytes: bytes,
-        length: end,
-    }
-}
-
-fn inconclusive_line(k: u32) -> Line
-    ensures { (result.bytes ≡ framed (first_line (inconclusive k))) × (result.length ≡ length (first_line (inconclusive k))) }
-{
-    let mut bytes = [0u8; 40];
-    let at = put_word(&mut bytes, 0, b"inconclusive ");
-    let end = put_number(&mut bytes, at, k as u64, b'\n');
-    Line {
-        bytes: bytes,
-        length: end,
-    }
-}
-
-fn refused_line(number: u32, place: usize) -> Line
-    ensures { (result.bytes ≡ framed (first_line (refused number place)))
-        × (result.length ≡ length (first_line (refused number place))) }
-{
-    let mut bytes = [0u8; 40];
-    let at = put_word(&mut bytes, 0, b"refused ");
-    let next = put_number(&mut bytes, at, number as u64, b' ');
-    let end = put_number(&mut bytes, next, place as u64, b'\n');
-    Line {
-        bytes: bytes,
-        length: end,
-    }
+    let mut digits = Buffer::new();
+    let mut refusal = Line::new();
+    push_word(&mut refusal, "refused ");
+    push_word(&mut refusal, digits.format(number));
+    refusal.push(b' ');
+    push_word(&mut refusal, digits.format(place));
+    refusal.push(b'\n');
+    refusal
 }
 
 // The first line: `pass` and the bound, `inconclusive` and the node, or `refused`, the number and the place.
-pub fn first_line(a: Answer) -> Line
-    ensures text { result.bytes ≡ framed (first_line (verdict_of a)) }
-    ensures length { result.length ≡ length (first_line (verdict_of a)) }
+#[tactic(auto, unfolding(verdict::specs::Answers::verdict_of, crate::specs::Text::first_line))]
+pub fn first_line(a: Result<Verdict, Refusal>) -> Line
+    ensures { result.items ≡ first_line (verdict_of a) }
 {
     match a {
-        Answer::Pass(p) => pass_line(p.bound),
-        Answer::Inconclusive(k) => inconclusive_line(k),
-        Answer::Refused(f) => refused_line(f.number, f.place),
+        Ok(Verdict::Pass { bound }) => verdict_line("pass", bound),
+        Ok(Verdict::Inconclusive(k)) => verdict_line("inconclusive", k as u64),
+        Err(refusal) => refused_line(refusal.reason.number(), refusal.place),
+    }
+}
+
+// The name of a node's kind; no letters for any other number.
+// By hand: a number, since the clause of `node_line` is for every number.
+#[tactic(auto, unfolding(crate::specs::Text::kind_name))]
+fn kind_name(kind: u32) -> &'static str
+    ensures name { result.now ≡ kind_name kind }
+    ensures short { length result.now ≤ 6 }
+{
+    match Kind::try_from(kind) {
+        Ok(Kind::Leaf) => "leaf",
+        Ok(Kind::Join) => "join",
+        Ok(Kind::Hide) => "hide",
+        Ok(Kind::Rename) => "rename",
+        Ok(Kind::Header | Kind::Machine | Kind::Step | Kind::End) | Err(_) => "",
     }
 }
 
 // A node's line: its number, the name of its kind, and how many pairs it has.
+// By hand: the kind is a number, since the clause is for every number.
 pub fn node_line(k: u32, kind: u32, pairs: usize) -> Line
-    ensures text { result.bytes ≡ framed (node_line k kind pairs) }
-    ensures length { result.length ≡ length (node_line k kind pairs) }
+    ensures { result.items ≡ node_line k kind pairs }
 {
-    let mut bytes = [0u8; 40];
-    let at = put_number(&mut bytes, 0, k as u64, b' ');
-    let named = put_kind(&mut bytes, at, kind);
-    let next = put_word(&mut bytes, named, b" ");
-    let end = put_number(&mut bytes, next, pairs as u64, b'\n');
-    Line {
-        bytes: bytes,
-        length: end,
-    }
+    let mut node = Line::new();
+    let mut digits = Buffer::new();
+    push_word(&mut node, digits.format(k));
+    node.push(b' ');
+    push_word(&mut node, kind_name(kind));
+    node.push(b' ');
+    push_word(&mut node, digits.format(pairs));
+    node.push(b'\n');
+    node
 }
 
 // The lower-case hex digit d.
+#[tactic(auto, unfolding(crate::specs::Text::hex_digit))]
 fn hex_digit(d: u32) -> u8
     requires { d < 16 }
     ensures { result ≡ hex_digit d }
 {
-    if d < 10 {
-        return 48 + d as u8;
-    }
-    87 + d as u8
+    char::from_digit(d, 16).unwrap() as u8
+}
+
+// A set's four hex digits behind what the line has.
+// By hand: hex digits of core are a Display's, which may fail.
+#[tactic(auto, unfolding(crate::specs::Text::hex))]
+fn push_set(line: &mut Line, set: u32)
+    requires { array_vec_len line.old + 4 ≤ 40 }
+    ensures items { line.new.items ≡ line.old.items ++ hex set }
+    ensures len { array_vec_len line.new ≡ array_vec_len line.old + 4 }
+{
+    line.push(hex_digit(set / 4096 % 16));
+    line.push(hex_digit(set / 256 % 16));
+    line.push(hex_digit(set / 16 % 16));
+    line.push(hex_digit(set % 16));
 }
 
 // A pair's line: F, then C, of its entry.
 pub fn pair_line(x: u32) -> Line
-    ensures text { result.bytes ≡ framed (pair_line x) }
-    ensures length { result.length ≡ length (pair_line x) }
+    ensures { result.items ≡ pair_line x }
 {
     let f = x / 65536;
     let c = x % 65536;
-    let mut bytes = [0u8; 40];
-    bytes[0] = hex_digit(f / 4096 % 16);
-    bytes[1] = hex_digit(f / 256 % 16);
-    bytes[2] = hex_digit(f / 16 % 16);
-    bytes[3] = hex_digit(f % 16);
-    bytes[4] = b' ';
-    bytes[5] = hex_digit(c / 4096 % 16);
-    bytes[6] = hex_digit(c / 256 % 16);
-    bytes[7] = hex_digit(c / 16 % 16);
-    bytes[8] = hex_digit(c % 16);
-    bytes[9] = b'\n';
-    Line {
-        bytes: bytes,
-        length: 10,
-    }
+    let mut pair = Line::new();
+    push_set(&mut pair, f);
+    pair.push(b' ');
+    push_set(&mut pair, c);
+    pair.push(b'\n');
+    pair
 }
 
 // How many pairs a section has: its entries before the first zero.
 pub fn pair_count(section: &[u32]) -> usize
     ensures { result ≡ pair_count section.now }
 {
-    let mut i = 0;
-    while i < section.len() {
-        let ends = section[i] == 0;
-        if ends {
-            return i;
-        }
-        i += 1;
-    }
-    i
+    section
+        .iter()
+        .position(|x| *x == 0)
+        .unwrap_or(section.len())
 }

@@ -4,3 +4,4 @@ pub mod Meeting
 pub mod Passes
 pub mod Limits
 pub mod Unique
+pub mod Reasons

@@ -1,12 +1,16 @@
 -- A record that no test hits: every test false, and the other way round; and the two hits that cut files meet.
 -- Assumes nothing.
-use Rattle.std.proofs.Common.{◌≡◌, refl, ◌∙◌, Bool, true, false, cond, ℕ, suc, arith}
+use Rattle.std.proofs.Common.{◌≡◌, Bool, true, false, cond, ℕ, arith}
+use Rattle.std.specs.Prelude.{⊤, Result, Ok, Err}
+use Rattle.tests.specs.declared.Reason.{Reason}
+use Rattle.tests.specs.declared.Reason.TheVariants.{CutShort, UnknownKind, Misplaced, OutOfRange, BadOperand, NotAbove}
+use Rattle.tests.specs.declared.Reason.TheVariants.{TooMany, BadEnd, NinthEvent}
 use Rattle.records.specs.declared.Record.{Record}
 use Rattle.progress.specs.declared.Progress.{Progress}
 use Rattle.tests.specs.Tests.{bad_kind, cut_short, misplaced, too_many, bad_operand, not_above, ninth_event, bad_end}
 use Rattle.ranges.specs.Ranges.{out_of_range}
 use Rattle.tests.specs.FirstHit.{first_hit}
-use Rattle.records.proofs.Choices.{cond_true, cond_false}
+use Rattle.std.proofs.lemmas.Bool.Decides.{nat_tests}
 
 pub record Passed (g : Progress) (r : Record) (left : ℕ) : Type 0 where
   pub kind_known : bad_kind r ≡ false
@@ -19,74 +23,45 @@ pub record Passed (g : Progress) (r : Record) (left : ℕ) : Type 0 where
   pub eight_events : ninth_event g r ≡ false
   pub good_end : bad_end g r left ≡ false
 
-not_hit : (b : Bool) (k y : ℕ) → cond b (suc k) y ≡ 0 → (b ≡ false) × (y ≡ 0)
-not_hit true k y q = absurd (omega arith)
-not_hit false k y q = (refl, q)
+abbrev no_hit : Result ⊤ Reason
+no_hit = Ok tt
+
+none_hit : (a b c d e f h i j : Bool)
+    → cond a (Err UnknownKind) (cond b (Err CutShort) (cond c (Err Misplaced) (cond d (Err TooMany)
+    (cond e (Err OutOfRange) (cond f (Err BadOperand) (cond h (Err NotAbove) (cond i (Err NinthEvent)
+    (cond j (Err BadEnd) no_hit)))))))) ≡ no_hit
+    → (a ≡ false) × (b ≡ false) × (c ≡ false) × (d ≡ false) × (e ≡ false) × (f ≡ false) × (h ≡ false) × (i ≡ false)
+    × (j ≡ false)
+none_hit a b c d e f h i j q = grind arith
 
 module _ (g : Progress) (r : Record) (left : ℕ) where
-  pub passed_out : first_hit g r left ≡ 0 → Passed g r left
+  pub passed_out : first_hit g r left ≡ Ok tt → Passed g r left
   unfolding first_hit
   passed_out q =
-      let q1 = not_hit (bad_kind r) 2 _ q in
-      let q2 = not_hit (cut_short r left) 1 _ q1.1 in
-      let q3 = not_hit (misplaced g r) 3 _ q2.1 in
-      let q4 = not_hit (too_many g r) 7 _ q3.1 in
-      let q5 = not_hit (out_of_range g r) 4 _ q4.1 in
-      let q6 = not_hit (bad_operand g r) 5 _ q5.1 in
-      let q7 = not_hit (not_above g r) 6 _ q6.1 in
-      let q8 = not_hit (ninth_event g r) 9 _ q7.1 in
-      let q9 = not_hit (bad_end g r left) 8 0 q8.1 in
+      let n = none_hit _ _ _ _ _ _ _ _ _ q in
       record {
-        kind_known = q1.0;
-        whole = q2.0;
-        placed = q3.0;
-        few = q4.0;
-        ranged = q5.0;
-        operands_free = q6.0;
-        above = q7.0;
-        eight_events = q8.0;
-        good_end = q9.0;
+        kind_known = n.0;
+        whole = n.1;
+        placed = n.2;
+        few = n.3;
+        ranged = n.4;
+        operands_free = n.5;
+        above = n.6;
+        eight_events = n.7;
+        good_end = n.8;
       }
 
-  -- the first eight tests do not hit: what is left is test 9
-  last_test : bad_kind r ≡ false → cut_short r left ≡ false → misplaced g r ≡ false → too_many g r ≡ false
-      → out_of_range g r ≡ false
-      → bad_operand g r ≡ false → not_above g r ≡ false → ninth_event g r ≡ false
-      → first_hit g r left ≡ cond (bad_end g r left) 9 0
+  pub passed_in : Passed g r left → first_hit g r left ≡ Ok tt
   unfolding first_hit
-  last_test a b c d e f h i =
-      cond_false (bad_kind r) _ _ a
-      ∙ cond_false (cut_short r left) _ _ b
-      ∙ cond_false (misplaced g r) _ _ c
-      ∙ cond_false (too_many g r) _ _ d
-      ∙ cond_false (out_of_range g r) _ _ e
-      ∙ cond_false (bad_operand g r) _ _ f
-      ∙ cond_false (not_above g r) _ _ h
-      ∙ cond_false (ninth_event g r) _ _ i
+  passed_in p = grind (arith, nat_tests)
 
-  pub passed_in : Passed g r left → first_hit g r left ≡ 0
-  passed_in p =
-      last_test p.kind_known p.whole p.placed p.few p.ranged p.operands_free p.above
-      p.eight_events
-      ∙ cond_false (bad_end g r left) 9 0 p.good_end
-
-  pub hit_cut : bad_kind r ≡ false → cut_short r left ≡ true → first_hit g r left ≡ 2
+  pub hit_cut : bad_kind r ≡ false → cut_short r left ≡ true → first_hit g r left ≡ Err CutShort
   unfolding first_hit
-  hit_cut a b = cond_false (bad_kind r) _ _ a ∙ cond_true (cut_short r left) _ _ b
+  hit_cut a b = simp (a, b)
 
   -- whether a record passes depends on the bytes left by the tests 2 and 9 alone
   pub pass_with : (other : ℕ) → Passed g r other → cut_short r left ≡ false → bad_end g r left ≡ false
-      → first_hit g r left ≡ 0
+      → first_hit g r left ≡ Ok tt
+  unfolding first_hit
   pass_with other p b e =
-      passed_in
-      (record {
-        kind_known = p.kind_known;
-        whole = b;
-        placed = p.placed;
-        few = p.few;
-        ranged = p.ranged;
-        operands_free = p.operands_free;
-        above = p.above;
-        eight_events = p.eight_events;
-        good_end = e;
-      })
+      simp (p.kind_known, b, p.placed, p.few, p.ranged, p.operands_free, p.above, p.eight_events, e)

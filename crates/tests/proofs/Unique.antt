@@ -1,12 +1,14 @@
 -- Each function of this crate is settled by its contract: two results that meet it are equal.
 -- Assumes nothing.
 use Rattle.std.proofs.Common.{◌≡◌, Bool, ℕ}
+use Rattle.std.specs.Prelude.{⊤, Result}
 use Rattle.events.proofs.Unique.{settled}
 use Rattle.records.specs.declared.Record.{Record}
 use Rattle.progress.specs.declared.Progress.{Progress}
 use Rattle.tests.specs.Tests.{bad_kind, cut_short, misplaced, too_many, not_free, bad_operand, not_above, ninth_event}
-use Rattle.tests.specs.Tests.{unused_node}
-use Rattle.tests.specs.Tests.{bad_end}
+use Rattle.tests.specs.Tests.{unused_node, bad_end}
+use Rattle.tests.specs.declared.Reason.{Reason}
+use Rattle.tests.specs.Reasons.{number_of}
 use Rattle.tests.specs.FirstHit.{first_hit}
 
 pub bad_kind_unique : (r : Record) (x x' : Bool) → x ≡ bad_kind r → x' ≡ bad_kind r → x ≡ x'
@@ -40,6 +42,9 @@ pub bad_end_unique : (g : Progress) (r : Record) (left : ℕ) (x x' : Bool) → 
     → x' ≡ bad_end g r left → x ≡ x'
 bad_end_unique g r left x x' p q = settled p q
 
-pub first_hit_unique : (g : Progress) (r : Record) (left : ℕ) (x x' : ℕ) → x ≡ first_hit g r left
+pub first_hit_unique : (g : Progress) (r : Record) (left : ℕ) (x x' : Result ⊤ Reason) → x ≡ first_hit g r left
     → x' ≡ first_hit g r left → x ≡ x'
 first_hit_unique g r left x x' p q = settled p q
+
+pub number_unique : (reason : Reason) (x x' : ℕ) → x ≡ number_of reason → x' ≡ number_of reason → x ≡ x'
+number_unique reason x x' p q = settled p q

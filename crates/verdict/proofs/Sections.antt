@@ -64,22 +64,16 @@ section_at n (t ∷ ts) (suc i) rest a h =
     ) (section_at n ts i rest a.1 (le_of_suc-le-suc h))
 
 -- its first entries are the list
-pub list_at : (n : ℕ) (ts : List Network) (i : ℕ) (rest : List ℕ) → AllFit n ts → i < length ts
-    → take (length (list_of n (get_or ts i nowhere))) (drop (most_pairs * i) (sections_of n ts ++ rest))
+pub list_there : (n : ℕ) (ts : List Network) (i : ℕ) → AllFit n ts → i < length ts
+    → take (length (list_of n (get_or ts i nowhere))) (drop (most_pairs * i) (sections_of n ts))
     ≡ list_of n (get_or ts i nowhere)
 unfolding sections_of flat_map AllFit padded
-list_at n [] i rest a h = absurd (not-suc-le-zero h)
-list_at n (t ∷ ts) zero rest a h =
-    rw (
-      append_assoc (list_of n t ++ zeros (most_pairs - length (list_of n t))) (sections_of n ts) rest,
-      append_assoc (list_of n t) (zeros (most_pairs - length (list_of n t))) (sections_of n ts ++ rest),
-    ) (take_at (list_of n t) (zeros (most_pairs - length (list_of n t)) ++ (sections_of n ts ++ rest))
-    (length (list_of n t)) refl)
-list_at n (t ∷ ts) (suc i) rest a h =
+list_there n [] i a h = absurd (not-suc-le-zero h)
+list_there n (t ∷ ts) zero a h =
+    rw (append_assoc (list_of n t) (zeros (most_pairs - length (list_of n t))) (sections_of n ts))
+    (take_at (list_of n t) (zeros (most_pairs - length (list_of n t)) ++ sections_of n ts) (length (list_of n t)) refl)
+list_there n (t ∷ ts) (suc i) a h =
     let e : most_pairs * suc i ≡ length (padded (list_of n t)) + most_pairs * i =
     omega (arith, padded_length (list_of n t) a.0) in
-    rw (
-      e,
-      append_assoc (padded (list_of n t)) (sections_of n ts) rest,
-      drop-append-add (padded (list_of n t)) (sections_of n ts ++ rest) (most_pairs * i),
-    ) (list_at n ts i rest a.1 (le_of_suc-le-suc h))
+    rw (e, drop-append-add (padded (list_of n t)) (sections_of n ts) (most_pairs * i))
+    (list_there n ts i a.1 (le_of_suc-le-suc h))

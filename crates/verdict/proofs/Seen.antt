@@ -1,10 +1,10 @@
 -- What a node's record says of its network: by its kind, which operands it has, when 12 and the flag are given, and its
 -- list. Assumes nothing.
-use Rattle.std.proofs.Common.{◌≡◌, refl, sym, ap, ◌∙◌, Bool, true, false, ◌&&◌, ◌||◌, cond, List, [], ◌∷◌, ◌++◌}
+use Rattle.std.proofs.Common.{◌≡◌, refl, sym, ap, ◌∙◌, Bool, true, false, ◌&&◌, ◌||◌, cond, List, [], ◌∷◌}
 use Rattle.std.proofs.Common.{ℕ, zero, suc, ◌^◌, ◌≤◌, ◌<◌, not-suc-le-zero, le_of_suc-le-suc, arith, eqb, length}
 use Rattle.std.proofs.Common.{get_or, eqb-true}
 use mathlib.Core.List.Memᴰ
-use Rattle.events.specs.Sets.{room, is_empty, included}
+use Rattle.events.specs.Sets.{room, included}
 use Rattle.events.proofs.Widths.{included_widen}
 use Rattle.network.specs.Network.{Network, leaf, join, hide, rename, TargetsBelow}
 use Rattle.network.specs.Model.{Node, leaf_node, join_node, hide_node, rename_node, Model, idle, network_of, networks}
@@ -15,18 +15,17 @@ use Rattle.network.specs.Verdict.{has_empty_first, operand_empty}
 use Rattle.network.proofs.Nodes.{getD-member, node_network_lem}
 use Rattle.records.specs.declared.Record.{Record}
 use Rattle.records.specs.Kinds.{leaf_kind, join_kind, hide_kind, rename_kind, is, is_node}
-use Rattle.decoding.specs.Bytes.{AreBytes}
-use Rattle.records.proofs.Choices.{true_not_false}
-use Rattle.reader.specs.Scan.{readable, says}
+use Rattle.records.proofs.Choices.{or_false, true_not_false}
+use Rattle.reader.specs.declared.model.ReadFile.{ReadFile}
 use Rattle.reader.specs.File.{node_of, file_model}
 use Rattle.reader.specs.Encoding.{TargetsFilled}
 use Rattle.places.specs.Finding.{node_place, record_at}
 use Rattle.places.proofs.Found.{node_found}
-use Rattle.reader.proofs.Formed.{model_formed}
+use Rattle.reader.proofs.ReadFiles.{file_formed}
 use Rattle.entries.specs.Entries.{AllInside, KeepsOthers}
 use Rattle.entries.proofs.Inside.{list_inside}
 use Rattle.nodes.specs.Nodes.{Placed, list_for, NodeReady}
-use Rattle.verdict.proofs.Pairs.{any_append, any_same}
+use Rattle.verdict.proofs.Pairs.{any_same}
 
 -- the four tests on a node record's kind
 pub record Tests (r : Record) (a b c d : Bool) : Type 0 where
@@ -65,44 +64,46 @@ keeps_others : (n : ℕ) (f : List ℕ) → TargetsFilled n f → KeepsOthers n 
 unfolding KeepsOthers TargetsFilled
 keeps_others n f w e h l = get_d_any f e e 0 (omega (arith, w.0)) ∙ w.1 e h l
 
-module _ (s : List ℕ) (y : AreBytes s) (e : says s ≡ readable) (k : ℕ) (h : k < length (file_model s).nodes) where
+module _ (f : ReadFile) (k : ℕ) (h : k < length (file_model f.bytes.now).nodes) where
+  abbrev M : Model
+  M = file_model f.bytes.now
+
   -- the node's record, and the node
   abbrev rec : Record
-  rec = record_at s (node_place s k)
+  rec = record_at f.bytes.now (node_place f.bytes.now k)
 
   abbrev node : Node
-  node = get_or (file_model s).nodes k (leaf_node 0)
+  node = get_or M.nodes k (leaf_node 0)
 
-  pub node_is : NodeIs (file_model s) k rec
+  pub node_is : NodeIs M k rec
   unfolding node_of NodeFormed network_of node_network
   node_is =
-      go (is leaf_kind rec) refl (is join_kind rec) refl (is hide_kind rec) refl (node_found s k h).1 node
-      (node_found s k h).0 ((model_formed s y e).well_formed.node_formed k h)
-      (node_network_lem (file_model s) (model_formed s y e).well_formed k h)
-      (λ i f q. (model_formed s y e).targets_filled i f
-      (rw (← q) (getD-member (file_model s).nodes k (leaf_node 0) h)))
+      go (is leaf_kind rec) refl (is join_kind rec) refl (is hide_kind rec) refl (node_found f.bytes.now k h).1 node
+      (node_found f.bytes.now k h).0 ((file_formed f).well_formed.node_formed k h)
+      (node_network_lem M (file_formed f).well_formed k h)
+      (λ i t q. (file_formed f).targets_filled i t (rw (← q) (getD-member M.nodes k (leaf_node 0) h)))
     where
       go : (a : Bool) → is leaf_kind rec ≡ a → (b : Bool) → is join_kind rec ≡ b → (c : Bool) → is hide_kind rec ≡ c
           → is_node rec ≡ true → (x : Node)
           → cond a (leaf_node rec.number) (cond b (join_node rec.left rec.right rec.set)
           (cond c (hide_node rec.left rec.set) (rename_node rec.left rec.targets))) ≡ x
-          → NodeFormed (file_model s).events (length (file_model s).machines) k x
-          → node_network (file_model s) k ≡ network_of (file_model s).machines (networks (file_model s)) x
-          → ((i : ℕ) (f : List ℕ) → x ≡ rename_node i f → TargetsFilled (file_model s).events f)
-          → NodeIs (file_model s) k rec
+          → NodeFormed M.events (length M.machines) k x
+          → node_network M k ≡ network_of M.machines (networks M) x
+          → ((i : ℕ) (f : List ℕ) → x ≡ rename_node i f → TargetsFilled M.events f)
+          → NodeIs M k rec
       go true p b q c r o x z w n f =
           leaf_is (tests_for rec 4 (eqb-true rec.kind 4 p)) (rw (← z) at w) (rw (← z) at n)
       go false p true q c r o x z w n f =
-          let v : (rec.left < k) × (rec.right < k) × (rec.set < 2 ^ (file_model s).events) = rw (← z) at w in
+          let v : (rec.left < k) × (rec.right < k) × (rec.set < 2 ^ M.events) = rw (← z) at w in
           join_is (tests_for rec 5 (eqb-true rec.kind 5 q)) v.0 v.1 (rw (← z) at n)
       go false p false q true r o x z w n f =
-          let v : (rec.left < k) × (rec.set < 2 ^ (file_model s).events) = rw (← z) at w in
+          let v : (rec.left < k) × (rec.set < 2 ^ M.events) = rw (← z) at w in
           hide_is (tests_for rec 6 (eqb-true rec.kind 6 r)) v.0 v.1 (rw (← z) at n)
       go false p false q false r o x z w n f =
-          let v : (rec.left < k) × TargetsBelow (file_model s).events rec.targets = rw (← z) at w in
+          let v : (rec.left < k) × TargetsBelow M.events rec.targets = rw (← z) at w in
           let last : is rename_kind rec ≡ true = rw (p, q, r) at o in
           rename_is (tests_for rec 7 (eqb-true rec.kind 7 last)) v.0
-          (v.1, keeps_others (file_model s).events rec.targets (f rec.left rec.targets (sym z)))
+          (v.1, keeps_others M.events rec.targets (f rec.left rec.targets (sym z)))
           (rw (← z) at n)
 
 -- the operands' lists of model M's node of record r; a leaf has none, and only a join has a right one
@@ -112,24 +113,13 @@ left_list M r = cond (is leaf_kind r) [] (list_of M.events (node_network M r.lef
 unfoldable pub right_list : Model → Record → List ℕ
 right_list M r = cond (is join_kind r) (list_of M.events (node_network M r.right)) []
 
--- those that a hide is flagged by
-unfoldable pub hide_list : Model → Record → List ℕ
-hide_list M r = cond (is hide_kind r) (left_list M r) []
-
--- the two tests of the pass
-abbrev pub lacks_first : ℕ → Bool
-lacks_first x = is_empty (first_of x)
-
-abbrev pub swallowed : ℕ → ℕ → Bool
-swallowed A x = included room (first_of x) A
-
 -- the node is a leaf whose machine spins
 abbrev pub spins_at : Model → Record → Bool
 spins_at M r = is leaf_kind r && spins (get_or M.machines r.number idle)
 
-or_none : (b : Bool) → (b || false) ≡ b
-or_none true = refl
-or_none false = refl
+-- the node is a hide that swallows the F of some pair of the list
+abbrev pub swallows : Record → List ℕ → Bool
+swallows r xs = is hide_kind r && any_of (λ x. included room (first_of x) r.set) xs
 
 module _ (M : Model) (few : M.events ≤ 16) (k : ℕ) (r : Record) where
   pub placed_is : NodeIs M k r → Placed r k
@@ -145,36 +135,29 @@ module _ (M : Model) (few : M.events ≤ 16) (k : ℕ) (r : Record) where
       record { left_below = λ q. l; right_below = λ q. absurd (true_not_false (sym q ∙ t.join_test)) }
 
   pub empty_is : NodeIs M k r
-      → operand_empty M.events (node_network M k) ≡ any_of lacks_first (left_list M r ++ right_list M r)
+      → operand_empty M.events (node_network M k)
+      ≡ (has_empty_first (left_list M r) || has_empty_first (right_list M r))
   unfolding operand_empty has_empty_first left_list right_list any_of
-  empty_is i = at i ∙ sym (any_append lacks_first (left_list M r) (right_list M r))
-    where
-      at : NodeIs M k r
-          → operand_empty M.events (node_network M k)
-          ≡ (any_of lacks_first (left_list M r) || any_of lacks_first (right_list M r))
-      at (leaf_is t l n) = rw (n, t.leaf_test, t.join_test) refl
-      at (join_is t l m n) = rw (n, t.leaf_test, t.join_test) refl
-      at (hide_is t l m n) =
-          rw (n, t.leaf_test, t.join_test)
-          (sym (or_none (any_of lacks_first (list_of M.events (node_network M r.left)))))
-      at (rename_is t l m n) =
-          rw (n, t.leaf_test, t.join_test)
-          (sym (or_none (any_of lacks_first (list_of M.events (node_network M r.left)))))
+  empty_is (leaf_is t l n) = rw (n, t.leaf_test, t.join_test) refl
+  empty_is (join_is t l m n) = rw (n, t.leaf_test, t.join_test) refl
+  empty_is (hide_is t l m n) =
+      rw (n, t.leaf_test, t.join_test) (sym (or_false (has_empty_first (list_of M.events (node_network M r.left)))))
+  empty_is (rename_is t l m n) =
+      rw (n, t.leaf_test, t.join_test) (sym (or_false (has_empty_first (list_of M.events (node_network M r.left)))))
 
   swallowed_is : (A : ℕ) (t : Network)
       → any_of (λ x. included M.events (first_of x) A) (list_of M.events t)
-      ≡ any_of (swallowed A) (list_of M.events t)
+      ≡ any_of (λ x. included room (first_of x) A) (list_of M.events t)
   unfolding AllInside
   swallowed_is A t =
-      any_same (λ x. included M.events (first_of x) A) (swallowed A) (list_of M.events t)
+      any_same (λ x. included M.events (first_of x) A) (λ x. included room (first_of x) A) (list_of M.events t)
       (λ x m. sym (included_widen M.events room (first_of x) A (omega (arith, few))
       (list_inside M.events few t x m).first_below))
 
-  pub flag_is : NodeIs M k r
-      → flag_of M.events (node_network M k) ≡ (spins_at M r || any_of (swallowed r.set) (hide_list M r))
-  unfolding flag_of hide_list left_list any_of
+  pub flag_is : NodeIs M k r → flag_of M.events (node_network M k) ≡ (spins_at M r || swallows r (left_list M r))
+  unfolding flag_of left_list
   flag_is (leaf_is t l n) = rw (n, t.leaf_test, t.hide_test)
-      (sym (or_none (spins (get_or M.machines r.number idle))))
+      (sym (or_false (spins (get_or M.machines r.number idle))))
   flag_is (join_is t l m n) = rw (n, t.leaf_test, t.hide_test) refl
   flag_is (hide_is t l m n) = rw (n, t.leaf_test, t.hide_test) (swallowed_is r.set (node_network M r.left))
   flag_is (rename_is t l m n) = rw (n, t.leaf_test, t.hide_test) refl
@@ -206,49 +189,42 @@ module _ (M : Model) (few : M.events ≤ 16) (k : ℕ) (r : Record) where
       at true = list_inside M.events few (node_network M r.right)
       at false = none_inside
 
-pub node_ready : (s : List ℕ) (n k : ℕ) (r : Record) → says s ≡ readable → n ≡ (file_model s).events
-    → (file_model s).events ≤ 16 → NodeIs (file_model s) k r
-    → NodeReady s n r (left_list (file_model s) r) (right_list (file_model s) r)
-node_ready s n k r e q few i =
-    record {
-      read = e;
-      events_are = q;
-      other_kind = other i;
-      machine_in = machine i;
-      set_in = rw q (set i);
-      targets_in = rw q (targets i);
-      left_inside = rw q (left_inside_is (file_model s) few k r);
-      right_inside = rw q (right_inside_is (file_model s) few k r);
-    }
-  where
-    M : Model
-    M = file_model s
+  pub node_ready : NodeIs M k r → NodeReady M r (left_list M r) (right_list M r)
+  node_ready i =
+      record {
+        other_kind = other i;
+        machine_in = machine i;
+        set_in = set i;
+        targets_in = targets i;
+        left_inside = left_inside_is;
+        right_inside = right_inside_is;
+      }
+    where
+      never : {X : Type 0} {b : Bool} → b ≡ true → b ≡ false → X
+      never p q = absurd (true_not_false (sym p ∙ q))
 
-    never : {X : Type 0} {b : Bool} → b ≡ true → b ≡ false → X
-    never p q = absurd (true_not_false (sym p ∙ q))
+      other : NodeIs M k r → is leaf_kind r ≡ false → is join_kind r ≡ false → is hide_kind r ≡ false
+          → is rename_kind r ≡ true
+      other (leaf_is t l n) a b c = never t.leaf_test a
+      other (join_is t l m n) a b c = never t.join_test b
+      other (hide_is t l m n) a b c = never t.hide_test c
+      other (rename_is t l m n) a b c = t.rename_test
 
-    other : NodeIs M k r → is leaf_kind r ≡ false → is join_kind r ≡ false → is hide_kind r ≡ false
-        → is rename_kind r ≡ true
-    other (leaf_is t l n) a b c = never t.leaf_test a
-    other (join_is t l m n) a b c = never t.join_test b
-    other (hide_is t l m n) a b c = never t.hide_test c
-    other (rename_is t l m n) a b c = t.rename_test
+      machine : NodeIs M k r → is leaf_kind r ≡ true → r.number < length M.machines
+      machine (leaf_is t l n) a = l
+      machine (join_is t l m n) a = never a t.leaf_test
+      machine (hide_is t l m n) a = never a t.leaf_test
+      machine (rename_is t l m n) a = never a t.leaf_test
 
-    machine : NodeIs M k r → is leaf_kind r ≡ true → r.number < length M.machines
-    machine (leaf_is t l n) a = l
-    machine (join_is t l m n) a = never a t.leaf_test
-    machine (hide_is t l m n) a = never a t.leaf_test
-    machine (rename_is t l m n) a = never a t.leaf_test
+      set : NodeIs M k r → is hide_kind r ≡ true → r.set < 2 ^ M.events
+      set (leaf_is t l n) a = never a t.hide_test
+      set (join_is t l m n) a = never a t.hide_test
+      set (hide_is t l m n) a = m
+      set (rename_is t l m n) a = never a t.hide_test
 
-    set : NodeIs M k r → is hide_kind r ≡ true → r.set < 2 ^ M.events
-    set (leaf_is t l n) a = never a t.hide_test
-    set (join_is t l m n) a = never a t.hide_test
-    set (hide_is t l m n) a = m
-    set (rename_is t l m n) a = never a t.hide_test
-
-    targets : NodeIs M k r → is rename_kind r ≡ true
-        → TargetsBelow M.events r.targets × KeepsOthers M.events r.targets
-    targets (leaf_is t l n) a = never a t.rename_test
-    targets (join_is t l m n) a = never a t.rename_test
-    targets (hide_is t l m n) a = never a t.rename_test
-    targets (rename_is t l m n) a = m
+      targets : NodeIs M k r → is rename_kind r ≡ true
+          → TargetsBelow M.events r.targets × KeepsOthers M.events r.targets
+      targets (leaf_is t l n) a = never a t.rename_test
+      targets (join_is t l m n) a = never a t.rename_test
+      targets (hide_is t l m n) a = never a t.rename_test
+      targets (rename_is t l m n) a = m

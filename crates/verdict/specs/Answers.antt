@@ -1,27 +1,26 @@
 -- The answer and document 01's verdict for it, and the sections of a model after a verdict. Document 01, "Refusal
 -- numbers" and the working area. Assumes nothing.
 use mathlib.Core.List.{List, flat_map}
-use Rattle.std.specs.Prelude.{ℕ, ◌*◌, length}
+use Rattle.std.specs.Prelude.{ℕ, ◌*◌, length, Result, Ok, Err}
 use Rattle.network.specs.Network.{Network}
 use Rattle.network.specs.Model.{Model, networks}
 use Rattle.network.specs.Lists.{list_of}
 use Rattle.network.specs.Verdict.{Verdict, pass, inconclusive, refused, most_pairs}
-use Rattle.tests.specs.FirstHit.{refusal}
+use Rattle.tests.specs.declared.Refusal.{Refusal}
+use Rattle.tests.specs.Reasons.{number_of}
 use Rattle.filling.specs.Building.{zeros, padded}
-use Rattle.verdict.specs.declared.Answer.{Answer}
-use Rattle.verdict.specs.declared.Answer.TheVariants.{Pass, Inconclusive, Refused}
+use Rattle.verdict.specs.declared.Verdict as Judged
+use Rattle.verdict.specs.declared.Verdict.TheVariants.{Pass, Inconclusive}
 
--- the answer that says a verdict
-unfoldable pub answer_for : Verdict → Answer
-answer_for (pass b) = Pass (record { bound = b })
-answer_for (inconclusive k) = Inconclusive k
-answer_for (refused number place) = Refused (refusal number place)
+-- what is answered on a file: a verdict, or a refusal
+abbrev pub Answer : Type 0
+Answer = Result Judged.Verdict Refusal
 
 -- document 01's verdict, with its numbers, for each answer
 unfoldable pub verdict_of : Answer → Verdict
-verdict_of (Pass p) = pass p.bound
-verdict_of (Inconclusive k) = inconclusive k
-verdict_of (Refused f) = refused f.number f.place
+verdict_of (Ok (Pass b)) = pass b
+verdict_of (Ok (Inconclusive k)) = inconclusive k
+verdict_of (Err f) = refused (number_of f.reason) f.place
 
 -- how many entries the sections of model M's nodes have: 256 for each node
 unfoldable pub needed : Model → ℕ

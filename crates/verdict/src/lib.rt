@@ -1,139 +1,79 @@
 // The pass over the nodes of a readable file, in order, to the first that gives anything.
 #![tactic(auto)]
 
-ghost use Rattle.std.specs.Prelude.{◌≡◌, ◌*◌, ◌≤◌, length};
-ghost use Rattle.events.specs.Sets.{room, is_empty, included};
-ghost use Rattle.network.specs.Model.{bound};
+ghost use Rattle.std.specs.Prelude.{◌≡◌, ◌&&◌, ◌*◌, ◌≤◌, length};
+ghost use Rattle.events.specs.Sets.{room, included};
+ghost use Rattle.network.specs.Loops.{any_of};
 ghost use Rattle.network.specs.Lists.{first_of};
-ghost use Rattle.network.specs.Verdict.{pass, verdict};
-ghost use Rattle.tests.specs.FirstHit.{refusal};
-ghost use Rattle.reader.specs.Scan.{readable, says};
+ghost use Rattle.network.specs.Verdict.{has_empty_first, verdict};
+ghost use Rattle.records.specs.Kinds.{hide_kind, is};
 ghost use Rattle.reader.specs.File.{file_model};
-ghost use Rattle.verdict.specs.Answers.{answer_for};
-ghost use Rattle.verdict.specs.Sweeping.{pair_place, hidden_pairs};
+ghost use Rattle.verdict.specs.Answers.{verdict_of};
 ghost use Rattle.verdict.specs.Sweeping.{swept_to, through, BehindKept};
 
 use events::EventSet;
-use nodes::Operands;
-use records::Record;
-use tests::Refusal;
+use reader::ReadFile;
+use records::{Kind, Record};
+use tests::{Reason, Refusal};
 
-// What a pass tells: the bound.
-#[derive(Clone, Copy)]
-pub struct Passed {
-    pub bound: u64,
-}
-
-// The answer for a file: pass with the bound, inconclusive with the node, or a refusal.
-#[derive(Clone, Copy)]
-pub enum Answer {
-    Pass(Passed),
+// The verdict on a file that is not refused: pass with the bound, or inconclusive with the node.
+#[derive(Clone, Copy, Debug, PartialEq, Eq)]
+pub enum Verdict {
+    Pass { bound: u64 },
     Inconclusive(u32),
-    Refused(Refusal),
 }
 
-// The pass of a readable file: it tells the file's bound.
-fn pass_with_bound(bytes: &[u8]) -> Answer
-    requires { says bytes.now ≡ readable }
-    ensures { result ≡ answer_for (pass (bound (file_model bytes.now))) }
+// Whether some pair of the list has an empty F.
+fn has_empty_first(xs: &[u32]) -> bool
+    ensures { result ≡ has_empty_first xs.now }
 {
-    Answer::Pass(Passed {
-        bound: places::bound_of(bytes),
-    })
+    xs.iter().any(|x| entries::first_of(*x).is_empty())
 }
 
-// The refusal that node k gives.
-fn refused_at(number: u32, k: u32) -> Answer
-    ensures { result ≡ Answer.Refused (refusal number k) }
+// Whether the node is a hide whose flag is up: whether F−A of some pair of its operand's list is empty.
+fn is_swallowing_hide(r: Record, xs: &[u32]) -> bool
+    ensures { result ≡ (is hide_kind r && any_of (λ x. included room (first_of x) r.set) xs.now) }
 {
-    Answer::Refused(Refusal {
-        number: number,
-        place: k as usize,
-    })
-}
-
-// Where pair i of the operands' lists stands, those of the left one first.
-fn pair_place(o: Operands, i: usize) -> usize
-    requires { (i ≤ 8192) × (o.left ≤ 8192) × (o.right ≤ 8192) }
-    ensures { result ≡ pair_place o i }
-{
-    if i < o.lefts {
-        return o.left + i;
-    }
-    o.right + (i - o.lefts)
-}
-
-// How many pairs of the left operand's list a hide asks; any other node asks none.
-fn hidden_pairs(r: Record, count: usize) -> usize
-    ensures { result ≡ hidden_pairs r count }
-{
-    let hides = r.kind == records::HIDE;
-    if hides {
-        return count;
-    }
-    0
-}
-
-// Whether the pair has an empty F.
-fn lacks_first(x: u32) -> bool
-    ensures { result ≡ is_empty (first_of x) }
-{
-    let f = entries::first_of(x);
-    f.is_empty()
-}
-
-// Whether F−A of the pair is empty.
-fn is_swallowed(x: u32, set: u32) -> bool
-    ensures { result ≡ included room (first_of x) set }
-{
-    let f = entries::first_of(x);
-    f.is_included(EventSet { bits: set })
+    let set = EventSet::from_bits(r.set);
+    r.is(Kind::Hide) && xs.iter().any(|x| entries::first_of(*x).is_included(set))
 }
 
 // The pass over the nodes of a readable file, one behind another; what a stop leaves in the sections its caller clears.
-pub fn sweep(bytes: &[u8], n: u32, nodes: u32, area: &mut [u32]) -> Answer
-    requires { (says bytes.now ≡ readable) × (n ≡ (file_model bytes.now).events)
-        × (nodes ≡ length (file_model bytes.now).nodes) × (256 * nodes ≤ length area.old) }
-    ensures answer { result ≡ answer_for (verdict (file_model bytes.now)) }
-    ensures area { area.new ≡ swept_to (file_model bytes.now)
-        (through (file_model bytes.now) (verdict (file_model bytes.now))) area.old }
-    ensures behind { BehindKept (file_model bytes.now) area.old area.new }
+pub fn sweep(file: ReadFile, area: &mut [u32]) -> Result<Verdict, Refusal>
+    requires { 256 * file.nodes ≤ length area.old }
+    ensures answer { verdict_of result ≡ verdict (file_model file.entry.bytes.now) }
+    ensures area { area.new ≡ swept_to (file_model file.entry.bytes.now)
+        (through (file_model file.entry.bytes.now) (verdict (file_model file.entry.bytes.now))) area.old }
+    ensures behind { BehindKept (file_model file.entry.bytes.now) area.old area.new }
 {
+    // By hand: counts beside the area; if slices of it are kept, what it is at the end stays open in the proof.
     let mut counts = [0usize; 32];
-    let mut place = places::node_place(bytes, 0);
-    let mut k: u32 = 0;
-    'nodes: loop {
-        if nodes <= k {
-            break pass_with_bound(bytes);
-        }
-        let r = places::record_at(bytes, place);
-        let o = nodes::operands_of(r, &counts);
-        let pairs = o.lefts + o.rights;
-        let mut i = 0;
-        while i < pairs {
-            if lacks_first(area[pair_place(o, i)]) {
-                break 'nodes refused_at(12, k);
+    let mut place = places::node_place(file.bytes, 0);
+    'nodes: {
+        for k in 0..file.nodes {
+            let r = places::record_at(file.bytes, place);
+            let (sections, rest) = area.split_at_mut(256 * k as usize);
+            let o = nodes::operands_of(r, &counts, sections);
+            if has_empty_first(o.left) || has_empty_first(o.right) {
+                break 'nodes Err(Refusal {
+                    reason: Reason::EmptyFirst,
+                    place: k as usize,
+                });
             }
-            i += 1;
-        }
-        if nodes::is_spinning_leaf(bytes, r) {
-            break 'nodes Answer::Inconclusive(k);
-        }
-        let left = o.left;
-        let hidden = hidden_pairs(r, o.lefts);
-        let mut j = 0;
-        while j < hidden {
-            if is_swallowed(area[left + j], r.set) {
-                break 'nodes Answer::Inconclusive(k);
+            if nodes::is_spinning_leaf(file, r) || is_swallowing_hide(r, o.left) {
+                break 'nodes Ok(Verdict::Inconclusive(k));
             }
-            j += 1;
+            let Some(count) = nodes::build(file, r, o, rest) else {
+                break 'nodes Err(Refusal {
+                    reason: Reason::TooManyPairs,
+                    place: k as usize,
+                });
+            };
+            counts[k as usize] = count;
+            place += records::size_of(r.kind);
         }
-        let t = nodes::build(bytes, n, r, o, k as usize, area);
-        if t.over {
-            break 'nodes refused_at(11, k);
-        }
-        counts[k as usize] = t.count;
-        place = place + records::size_of(r.kind);
-        k += 1;
+        Ok(Verdict::Pass {
+            bound: places::bound_of(file.bytes),
+        })
     }
 }

@@ -14,13 +14,13 @@ use Rattle.records.proofs.Sizes.{size_positive}
 use Rattle.reader.specs.declared.Scan.TheVariants.{Stopped, Finished}
 use Rattle.reader.specs.Scan.{scan_from, scan_of}
 use Rattle.reader.proofs.Turns.{rest, scan_stopped, scan_finished, scan_next}
-use Rattle.writer.specs.declared.Written.TheVariants.{Appended}
 use Rattle.writer.specs.Append.{after_scan, answer_of, buffer_after, buffer_of}
 use Rattle.writer.proofs.Answers.{tested_fits, answer_is}
 use Rattle.writer.proofs.Clean.{clean_extends}
+use Rattle.std.specs.Prelude.{Ok}
 
-module _ (s : List ℕ) (g : Progress) (r : Record) (clean : scan_of s ≡ Stopped g)
-    (no_hit : first_hit g r (size_of r.kind) ≡ 0) (d : Decodes r) where
+module _ (s : List ℕ) (g : Progress) (r : Record) (clean : scan_of s ≡ Ok (Stopped g))
+    (no_hit : first_hit g r (size_of r.kind) ≡ Ok tt) (d : Decodes r) where
   back : first_record (bytes_of r) ≡ r
   back = rw (append-nil (bytes_of r)) at (d.comes_back [])
 
@@ -31,7 +31,7 @@ module _ (s : List ℕ) (g : Progress) (r : Record) (clean : scan_of s ≡ Stopp
       (omega (arith, length-append s (bytes_of r)))
       ∙ ap (λ (f : ℕ). scan_from f g (bytes_of r)) d.sized
 
-  tested : first_hit g (first_record (bytes_of r)) (length (bytes_of r)) ≡ 0
+  tested : first_hit g (first_record (bytes_of r)) (length (bytes_of r)) ≡ Ok tt
   tested = rw (back, d.sized) no_hit
 
   some : 0 < length (bytes_of r)
@@ -40,19 +40,19 @@ module _ (s : List ℕ) (g : Progress) (r : Record) (clean : scan_of s ≡ Stopp
   nothing_left : length (rest (bytes_of r)) ≡ 0
   nothing_left = rw back (length-drop (size_of r.kind) (bytes_of r) ∙ omega (arith, d.sized))
 
-  pub end_finishes : r.kind ≡ end_kind → scan_of (s ++ bytes_of r) ≡ Finished (take_record g r)
+  pub end_finishes : r.kind ≡ end_kind → scan_of (s ++ bytes_of r) ≡ Ok (Finished (take_record g r))
   end_finishes k = on ∙ scan_finished (body_length r.kind) g (bytes_of r) some tested (rw back k) ∙ rw back
 
-  pub other_stops : r.kind ≢ end_kind → scan_of (s ++ bytes_of r) ≡ Stopped (take_record g r)
+  pub other_stops : r.kind ≢ end_kind → scan_of (s ++ bytes_of r) ≡ Ok (Stopped (take_record g r))
   other_stops k =
       on ∙ scan_next (body_length r.kind) g (bytes_of r) some tested (λ q. k (rw back at q))
       ∙ ap (λ (x : Record). scan_from (body_length r.kind) (take_record g x) (rest (bytes_of r))) back
       ∙ scan_stopped (body_length r.kind) (take_record g r) (rest (bytes_of r)) nothing_left
 
 -- behind a used part p of the buffer p ++ t, with room: appended, and the record's bytes take the place of t's first
-module _ (p t : List ℕ) (g : Progress) (r : Record) (clean : scan_of p ≡ Stopped g) (short : length p ≤ 4096)
-    (no_hit : first_hit g r (size_of r.kind) ≡ 0) (room : size_of r.kind ≤ length t) where
-  pub appends : answer_of (p ++ t) (length p) r ≡ Appended (length p + size_of r.kind)
+module _ (p t : List ℕ) (g : Progress) (r : Record) (clean : scan_of p ≡ Ok (Stopped g)) (short : length p ≤ 4096)
+    (no_hit : first_hit g r (size_of r.kind) ≡ Ok tt) (room : size_of r.kind ≤ length t) where
+  pub appends : answer_of (p ++ t) (length p) r ≡ Ok (length p + size_of r.kind)
   unfolding after_scan
   appends =
       let long : length (p ++ t) ≡ length p + length t = length-append p t in

@@ -8,7 +8,6 @@ use Rattle.progress.specs.declared.Progress.{Progress}
 use Rattle.records.specs.Kinds.{end_kind, size_of}
 use Rattle.decoding.specs.Bytes.{first_record}
 use Rattle.progress.specs.Progress.{start, take_record}
-use Rattle.tests.specs.FirstHit.{refusal}
 use Rattle.records.proofs.Sizes.{size_positive}
 use Rattle.reader.specs.declared.Scan.TheVariants.{Stopped, Finished}
 use Rattle.reader.specs.Scan.{scan_from, scan_of, refused, says}
@@ -18,17 +17,19 @@ use Rattle.reader.proofs.Turns.{rest}
 use Rattle.reader.proofs.Readings.{stopped_says, refused_says}
 use Rattle.reader.proofs.Records.{records_next}
 use Rattle.reader.proofs.Cut.{Cut, inside_first, behind_first, cut_scan}
-use Rattle.writer.specs.declared.Written.TheVariants.{Rejected}
 use Rattle.writer.specs.Append.{after_scan, answer_of, buffer_of}
 use Rattle.handing.specs.Handing.{handed_in}
 use Rattle.writer.specs.Promise.{Succeeds, used_part}
 use Rattle.writer.proofs.Answers.{rejected}
 use Rattle.writer.proofs.Clean.{CleanTurn, at_end, goes_on, clean_turn, clean_place, rest_length}
 use Rattle.writer.proofs.Success.{used_part_scan, used_part_length, used_part_short}
+use Rattle.tests.specs.Reasons.{refusal}
+use Rattle.std.specs.Prelude.{Ok, Err}
+use Rattle.tests.specs.declared.Reason.TheVariants.{CutShort}
 
 -- a scan that stopped cleanly, of bytes that are cut
 cut_clean : (f f' : ℕ) (g h : Progress) (b : List ℕ) (k : ℕ) → k < length b → k ≤ f' → length b ≤ f
-    → scan_from f g b ≡ Stopped h
+    → scan_from f g b ≡ Ok (Stopped h)
     → Cut (scan_from f' g (take k b)) (g.place + start_of (records_from f b) k)
 unfolding start_of take_record
 cut_clean zero f' g h b k l m n e = absurd (omega arith)
@@ -36,7 +37,7 @@ cut_clean (suc f) f' g h b k l m n e = at (clean_turn f g b h e) f' m (λ f'' g'
   where
     at : CleanTurn f g b h → (f' : ℕ) → k ≤ f'
         → ((f'' : ℕ) (g' : Progress) (b' : List ℕ) (k' : ℕ) → k' < length b' → k' ≤ f'' → length b' ≤ f
-        → scan_from f g' b' ≡ Stopped h
+        → scan_from f g' b' ≡ Ok (Stopped h)
         → Cut (scan_from f'' g' (take k' b')) (g'.place + start_of (records_from f b') k'))
         → Cut (scan_from f' g (take k b)) (g.place + start_of (records_from (suc f) b) k)
     at (at_end z q) f' m ih = absurd (omega arith)
@@ -85,7 +86,7 @@ module _ (b : List ℕ) (used k : ℕ) (xs : List ℕ) (end : ℕ) (s : Succeeds
       zero_add : (x : ℕ) → 0 + x ≡ x
       zero_add x = omega arith
 
-      at : (h : Progress) → ((k ≡ end_kind) × (scan_of u ≡ Finished h)) ⊎ (scan_of u ≡ Stopped h)
+      at : (h : Progress) → ((k ≡ end_kind) × (scan_of u ≡ Ok (Finished h))) ⊎ (scan_of u ≡ Ok (Stopped h))
           → Cut (scan_of (take cut u)) place
       at h (inl (q, e)) =
           rw (zero_add place) at
@@ -99,11 +100,11 @@ module _ (b : List ℕ) (used k : ℕ) (xs : List ℕ) (end : ℕ) (s : Succeeds
     where
       at : Cut (scan_of (take cut u)) place → says (take cut u) ≡ refused 2 place
       at (inl (g, q, p)) = stopped_says (take cut u) short g q ∙ ap (refused 2) p
-      at (inr q) = refused_says (take cut u) short 2 place q
+      at (inr q) = refused_says (take cut u) short CutShort place q
 
   -- behind a record that is cut inside, 2 at that record, and nothing changes
   pub nothing_behind_cut : place < cut → (r : Record)
-      → (answer_of (buffer_of b used (handed_in used k xs)) cut r ≡ Rejected (refusal 2 place))
+      → (answer_of (buffer_of b used (handed_in used k xs)) cut r ≡ Err (refusal CutShort place))
       × (buffer_of (buffer_of b used (handed_in used k xs)) cut r ≡ buffer_of b used (handed_in used k xs))
   unfolding after_scan used_part scan_of start
   nothing_behind_cut inner r = at cut_comes
@@ -118,9 +119,9 @@ module _ (b : List ℕ) (used k : ℕ) (xs : List ℕ) (end : ℕ) (s : Succeeds
       fits = omega (arith, before, length-take end b')
 
       at : Cut (scan_of (take cut u)) place
-          → (answer_of b' cut r ≡ Rejected (refusal 2 place)) × (buffer_of b' cut r ≡ b')
+          → (answer_of b' cut r ≡ Err (refusal CutShort place)) × (buffer_of b' cut r ≡ b')
       at (inl (g, q, p)) =
           absurd (omega (arith, clean_place (length (take cut u)) start (take cut u) g (omega arith) q, taken))
       at (inr q) =
-          let z = rejected b' cut r fits (omega (arith, short, taken)) (refusal 2 place) (rw (same, q)) in
+          let z = rejected b' cut r fits (omega (arith, short, taken)) (refusal CutShort place) (rw (same, q)) in
           (sym z.0, sym z.1)

@@ -1,8 +1,7 @@
 -- The round trips: handing in the records of a readable file, or of a model, one after another rebuilds the file, byte
 -- for byte. Assumes nothing.
 use Rattle.std.proofs.Common.{◌≡◌, refl, sym, ap, ◌∙◌, subst, List, [], ◌∷◌, ◌++◌, append-nil, append_assoc, ℕ}
-use Rattle.std.proofs.Common.{◌+◌, ◌-◌, ◌≤◌, arith, length, take, drop, length-append, length-drop, drop-drop}
-use Rattle.std.proofs.Common.{take_all}
+use Rattle.std.proofs.Common.{◌+◌, ◌-◌, ◌≤◌, arith, length, take, drop, length-append, length-drop, drop-drop, take_all}
 use mathlib.Core.List.{flat_map}
 use Rattle.network.specs.Model.{Model}
 use Rattle.records.specs.declared.Record.{Record}
@@ -30,16 +29,15 @@ use Rattle.reader.proofs.Readings.{readable_out}
 use Rattle.reader.proofs.Bytes.{file_bytes}
 use Rattle.reader.proofs.OneEncoding.{file_listing}
 use Rattle.reader.proofs.EncodingReads.{encoding_reads}
-use Rattle.writer.specs.declared.Written.TheVariants.{Appended}
 use Rattle.writer.specs.Append.{answer_of, buffer_of}
-use Rattle.handing.specs.Handing.{handed_in}
+use Rattle.handing.specs.Handing.{handed_in, numbers_of}
 use Rattle.writer.specs.Writing.{calls, and_then, write_all}
-use Rattle.handing.specs.Handing.{numbers_of}
 use Rattle.writer.proofs.Clean.{clean_place}
 use Rattle.writer.proofs.Appending.{other_stops, appends, appends_buffer}
+use Rattle.std.specs.Prelude.{Ok}
 
 -- what is handed in for a plain record that no test hits is the record: an end's count is the place where it stands
-handed_back : (g : Progress) (r : Record) → Plain r → first_hit g r (size_of r.kind) ≡ 0
+handed_back : (g : Progress) (r : Record) → Plain r → first_hit g r (size_of r.kind) ≡ Ok tt
     → handed_in g.place r.kind (numbers_of r) ≡ r
 unfolding handed_in numbers_of trimmed
 handed_back g r p w = at (met_out g r (size_of r.kind) (passed_out g r (size_of r.kind) w)) ∙ sym p.own
@@ -58,7 +56,7 @@ handed_back g r p w = at (met_out g r (size_of r.kind) (passed_out g r (size_of 
     at (end_met k m) = rw (k, m.counted)
 
 -- and its encoding decodes to it
-pub plain_decodes : (g : Progress) (r : Record) → Plain r → first_hit g r (size_of r.kind) ≡ 0 → Decodes r
+pub plain_decodes : (g : Progress) (r : Record) → Plain r → first_hit g r (size_of r.kind) ≡ Ok tt → Decodes r
 plain_decodes g r p w = at (met_out g r (size_of r.kind) (passed_out g r (size_of r.kind) w))
   where
     from : (x : Record) → r ≡ x → Decodes x → Decodes r
@@ -75,9 +73,9 @@ plain_decodes g r p w = at (met_out g r (size_of r.kind) (passed_out g r (size_o
     at (end_met k m) = from _ (end_is r p k) (decodes_end r.number)
 
 -- one record behind a clean used part p of the buffer p ++ t, and then the further calls
-module _ (p t : List ℕ) (g : Progress) (r : Record) (clean : scan_of p ≡ Stopped g) (short : length p ≤ 4096)
+module _ (p t : List ℕ) (g : Progress) (r : Record) (clean : scan_of p ≡ Ok (Stopped g)) (short : length p ≤ 4096)
     (plain : Plain r)
-    (no_hit : first_hit g r (size_of r.kind) ≡ 0) (room : size_of r.kind ≤ length t) where
+    (no_hit : first_hit g r (size_of r.kind) ≡ Ok tt) (room : size_of r.kind ≤ length t) where
   one_call : (rs : List Record) → write_all (r ∷ rs) (p ++ t) (length p)
       ≡ write_all rs ((p ++ bytes_of r) ++ drop (size_of r.kind) t) (length p + size_of r.kind)
   unfolding write_all and_then scan_of start
@@ -93,33 +91,33 @@ behind_both p x y t =
     rw (length-append x y, ← append_assoc p x y, drop-drop (length y) (length x) t)
 
 -- the last record, with nothing behind it
-last_call : (p t : List ℕ) (g : Progress) (r : Record) → scan_of p ≡ Stopped g → length p ≤ 4096 → Plain r
-    → first_hit g r (size_of r.kind) ≡ 0 → size_of r.kind ≤ length t
+last_call : (p t : List ℕ) (g : Progress) (r : Record) → scan_of p ≡ Ok (Stopped g) → length p ≤ 4096 → Plain r
+    → first_hit g r (size_of r.kind) ≡ Ok tt → size_of r.kind ≤ length t
     → write_all (r ∷ []) (p ++ t) (length p)
-    ≡ calls (Appended (length p + length (bytes_of r ++ [])))
+    ≡ calls (Ok (length p + length (bytes_of r ++ [])))
     ((p ++ (bytes_of r ++ [])) ++ drop (length (bytes_of r ++ [])) t)
 unfolding write_all
 last_call p t g r c short plain w room =
     one_call p t g r c short plain w room []
-    ∙ ap (λ (n : ℕ). calls (Appended (length p + n)) ((p ++ bytes_of r) ++ drop n t))
+    ∙ ap (λ (n : ℕ). calls (Ok (length p + n)) ((p ++ bytes_of r) ++ drop n t))
     (sym (plain_decodes g r plain w).sized)
-    ∙ ap (λ (x : List ℕ). calls (Appended (length p + length x)) ((p ++ x) ++ drop (length x) t))
+    ∙ ap (λ (x : List ℕ). calls (Ok (length p + length x)) ((p ++ x) ++ drop (length x) t))
     (sym (append-nil (bytes_of r)))
 
 -- the calls for two parts, one behind the other
 calls_behind : (p x y t : List ℕ)
-    → calls (Appended (length (p ++ x) + length y)) (((p ++ x) ++ y) ++ drop (length y) (drop (length x) t))
-    ≡ calls (Appended (length p + length (x ++ y))) ((p ++ (x ++ y)) ++ drop (length (x ++ y)) t)
+    → calls (Ok (length (p ++ x) + length y)) (((p ++ x) ++ y) ++ drop (length y) (drop (length x) t))
+    ≡ calls (Ok (length p + length (x ++ y))) ((p ++ (x ++ y)) ++ drop (length (x ++ y)) t)
 calls_behind p x y t =
     let n : length (p ++ x) + length y ≡ length p + length (x ++ y) =
     omega (arith, length-append p x, length-append x y) in
-    λ i. calls (Appended (n i)) (behind_both p x y t i)
+    λ i. calls (Ok (n i)) (behind_both p x y t i)
 
-pub rewrites : (rs : List Record) (g h : Progress) (p t : List ℕ) → scan_of p ≡ Stopped g → Runs g rs h → EndsOnce rs
+pub rewrites : (rs : List Record) (g h : Progress) (p t : List ℕ) → scan_of p ≡ Ok (Stopped g) → Runs g rs h → EndsOnce rs
     → AllPlain rs
     → length p + length (bytes_of_all rs) ≤ 4096 → length (bytes_of_all rs) ≤ length t
     → write_all rs (p ++ t) (length p)
-    ≡ calls (Appended (length p + length (bytes_of_all rs))) ((p ++ bytes_of_all rs) ++ drop (length (bytes_of_all rs)) t)
+    ≡ calls (Ok (length p + length (bytes_of_all rs))) ((p ++ bytes_of_all rs) ++ drop (length (bytes_of_all rs)) t)
 unfolding Runs EndsOnce AllPlain flat_map
 rewrites [] g h p t c w e a l m = absurd e
 rewrites (r ∷ []) g h p t c w e a l m =
@@ -137,17 +135,17 @@ rewrites (r ∷ r' ∷ rs) g h p t c w e a l m =
     ∙ rewrites (r' ∷ rs) (take_record g r) h (p ++ x) (drop (size_of r.kind) t) (other_stops p g r c w.0 d e.0)
     w.1 e.1 a.1
     (omega (arith, length-append p x, d.sized)) (omega arith)
-    ∙ ap (λ (n : ℕ). calls (Appended (length (p ++ x) + length y)) (((p ++ x) ++ y) ++ drop (length y) (drop n t)))
+    ∙ ap (λ (n : ℕ). calls (Ok (length (p ++ x) + length y)) (((p ++ x) ++ y) ++ drop (length y) (drop n t)))
     (sym d.sized)
     ∙ calls_behind p x y t
 
-nothing_scanned : scan_of [] ≡ Stopped start
+nothing_scanned : scan_of [] ≡ Ok (Stopped start)
 unfolding scan_of scan_from
 nothing_scanned = refl
 
 -- reading a file and writing its records gives the same bytes
 pub file_round_trip : (s : List ℕ) → AreBytes s → says s ≡ readable → (b : List ℕ) → length s ≤ length b
-    → write_all (records_of s) b 0 ≡ calls (Appended (length s)) (s ++ drop (length s) b)
+    → write_all (records_of s) b 0 ≡ calls (Ok (length s)) (s ++ drop (length s) b)
 file_round_trip s y e b m =
     let f = file_listing s y e in
     let short = (readable_out s e).short in
@@ -155,8 +153,8 @@ file_round_trip s y e b m =
     let long : length (bytes_of_all (records_of s)) ≡ length s = ap length bytes in
     rewrites (records_of s) start f.at_end [] b nothing_scanned f.run.taken f.run.ends_once f.plain
     (omega arith) (omega arith)
-    ∙ ap (λ (x : List ℕ). calls (Appended (0 + length x)) (x ++ drop (length x) b)) bytes
-    ∙ ap (λ (n : ℕ). calls (Appended n) (s ++ drop (length s) b)) (omega arith)
+    ∙ ap (λ (x : List ℕ). calls (Ok (0 + length x)) (x ++ drop (length x) b)) bytes
+    ∙ ap (λ (n : ℕ). calls (Ok n) (s ++ drop (length s) b)) (omega arith)
 
 -- an end's own number is ignored
 end_alike : (rs : List Record) (x y : ℕ) (b : List ℕ) (used : ℕ)
@@ -170,7 +168,7 @@ end_alike (r ∷ rs) x y b used =
 -- writing a model gives its encoding
 pub model_round_trip : (M : Model) → Encodable M → (b : List ℕ) → length (encode M) ≤ length b
     → write_all (model_records M ++ (end_record 0 ∷ [])) b 0
-    ≡ calls (Appended (length (encode M))) (encode M ++ drop (length (encode M)) b)
+    ≡ calls (Ok (length (encode M))) (encode M ++ drop (length (encode M)) b)
 unfolding file_model
 model_round_trip M e b m =
     let r = encoding_reads M e in

@@ -11,7 +11,6 @@ use Rattle.records.specs.Records.{no_targets, other_record}
 use Rattle.decoding.specs.Bytes.{bytes_of}
 use Rattle.progress.specs.Progress.{start, take_record}
 use Rattle.tests.specs.Tests.{bad_kind}
-use Rattle.tests.specs.FirstHit.{refusal}
 use Rattle.decoding.proofs.Decodes.{Decodes, decodes_header, decodes_machine, decodes_step, decodes_leaf}
 use Rattle.decoding.proofs.Decodes.{decodes_join, decodes_hide, decodes_rename, decodes_end}
 use Rattle.tests.proofs.Passing.{passed_out}
@@ -20,7 +19,6 @@ use Rattle.tests.proofs.Meeting.{kind_range}
 use Rattle.reader.specs.declared.Scan.TheVariants.{Stopped, Finished}
 use Rattle.reader.specs.Scan.{scan_of, readable, refused, says}
 use Rattle.reader.proofs.Readings.{readable_in, stopped_says}
-use Rattle.writer.specs.declared.Written.TheVariants.{Appended, Rejected}
 use Rattle.writer.specs.Append.{after_scan, answer_of, buffer_after, buffer_of}
 use Rattle.handing.specs.Handing.{handed_in}
 use Rattle.writer.specs.Promise.{Succeeds, used_part}
@@ -29,6 +27,9 @@ use Rattle.writer.proofs.Answers.{Success, success_out, answer_is}
 use Rattle.writer.proofs.Appending.{end_finishes, other_stops}
 use Rattle.writer.proofs.Clean.{clean_keeps, clean_place}
 use Rattle.writer.proofs.Fitting.{Kept, kept_start, kept_keeps, kept_short}
+use Rattle.tests.specs.Reasons.{refusal}
+use Rattle.std.specs.Prelude.{Ok, Err}
+use Rattle.tests.specs.declared.Reason.TheVariants.{TooLong, NoRoom}
 
 -- a record that is handed in with seventeen numbers decodes from its encoding, if its kind is one of the eight
 handed_decodes : (used k : ℕ) (xs : List ℕ) → length xs ≡ 17 → bad_kind (handed_in used k xs) ≡ false
@@ -57,7 +58,7 @@ module _ (b : List ℕ) (used k : ℕ) (xs : List ℕ) (end : ℕ) (s : Succeeds
   inside = at (ltb (length b) used) refl (ltb 4096 used) refl s.answered
     where
       at : (x : Bool) → ltb (length b) used ≡ x → (y : Bool) → ltb 4096 used ≡ y
-          → cond x (Rejected (refusal 13 0)) (cond y (Rejected (refusal 1 0)) (after_scan (length b) used r (scan_of (take used b)))) ≡ Appended end
+          → cond x (Err (refusal NoRoom 0)) (cond y (Err (refusal TooLong 0)) (after_scan (length b) used r (scan_of (take used b)))) ≡ Ok end
           → (used ≤ length b) × (used ≤ 4096)
       at true p y q e = let z : ◌≡◌ {A = ℕ} 0 1 = cc in absurd (omega arith)
       at false p true q e = let z : ◌≡◌ {A = ℕ} 0 1 = cc in absurd (omega arith)
@@ -86,13 +87,13 @@ module _ (b : List ℕ) (used k : ℕ) (xs : List ℕ) (end : ℕ) (s : Succeeds
 
   -- the scan of the used part: finished behind an end, stopped cleanly behind anything else
   pub used_part_scan : (h : Progress)
-      × (((k ≡ end_kind) × (scan_of (used_part b used k xs end) ≡ Finished h)) ⊎
-      (scan_of (used_part b used k xs end) ≡ Stopped h))
+      × (((k ≡ end_kind) × (scan_of (used_part b used k xs end) ≡ Ok (Finished h))) ⊎
+      (scan_of (used_part b used k xs end) ≡ Ok (Stopped h)))
   used_part_scan = (take_record won.progress r, at (ℕ_discrete r.kind end_kind))
     where
       at : Dec (r.kind ≡ end_kind)
-          → ((k ≡ end_kind) × (scan_of (used_part b used k xs end) ≡ Finished (take_record won.progress r)))
-          ⊎ (scan_of (used_part b used k xs end) ≡ Stopped (take_record won.progress r))
+          → ((k ≡ end_kind) × (scan_of (used_part b used k xs end) ≡ Ok (Finished (take_record won.progress r))))
+          ⊎ (scan_of (used_part b used k xs end) ≡ Ok (Stopped (take_record won.progress r)))
       at (yes q) =
           inl (
             sym (handed_kind used k xs) ∙ q,
@@ -126,8 +127,8 @@ module _ (b : List ℕ) (used k : ℕ) (xs : List ℕ) (end : ℕ) (s : Succeeds
       u : List ℕ
       u = used_part b used k xs end
 
-      at : ((k ≡ end_kind) × (scan_of (used_part b used k xs end) ≡ Finished used_part_scan.0))
-          ⊎ (scan_of (used_part b used k xs end) ≡ Stopped used_part_scan.0)
+      at : ((k ≡ end_kind) × (scan_of (used_part b used k xs end) ≡ Ok (Finished used_part_scan.0)))
+          ⊎ (scan_of (used_part b used k xs end) ≡ Ok (Stopped used_part_scan.0))
           → ((k ≡ end_kind) × (says (used_part b used k xs end) ≡ readable))
           ⊎ (says (used_part b used k xs end) ≡ refused 2 end)
       at (inl (q, e)) = inl (q, readable_in u used_part_short used_part_scan.0 e)

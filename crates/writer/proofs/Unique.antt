@@ -2,11 +2,12 @@
 -- Assumes nothing.
 use Rattle.std.proofs.Common.{◌≡◌, List, ℕ}
 use Rattle.events.proofs.Unique.{settled}
-use Rattle.writer.specs.declared.Written.{Written}
 use Rattle.writer.specs.Append.{answer_of, buffer_of}
 use Rattle.handing.specs.Handing.{handed_in}
+use Rattle.std.specs.Prelude.{Result}
+use Rattle.tests.specs.declared.Refusal.{Refusal}
 
-pub append_unique : (b : List ℕ) (used k : ℕ) (xs : List ℕ) (w w' : Written) (c c' : List ℕ)
+pub append_unique : (b : List ℕ) (used k : ℕ) (xs : List ℕ) (w w' : Result ℕ Refusal) (c c' : List ℕ)
     → (w ≡ answer_of b used (handed_in used k xs)) × (c ≡ buffer_of b used (handed_in used k xs))
     → (w' ≡ answer_of b used (handed_in used k xs)) × (c' ≡ buffer_of b used (handed_in used k xs))
     → (w ≡ w') × (c ≡ c')

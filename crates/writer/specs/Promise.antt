@@ -1,25 +1,25 @@
 -- What is promised of the writer. Document 01, "The writer adds one record ..", demand 1 and "Writing and reading are
 -- inverse". Assumes nothing.
-use Rattle.std.specs.Prelude.{◌≡◌, ◌⊎◌, List, [], ◌∷◌, ◌++◌, ℕ, ◌<◌, ◌≤◌, length, take, drop}
+use Rattle.std.specs.Prelude.{◌≡◌, ◌⊎◌, List, [], ◌∷◌, ◌++◌, ℕ, ◌<◌, ◌≤◌, length, take, drop, Ok, Err}
 use Rattle.network.specs.Model.{Model}
 use Rattle.records.specs.declared.Record.{Record}
 use Rattle.records.specs.Kinds.{end_kind}
 use Rattle.records.specs.Records.{end_record}
 use Rattle.decoding.specs.Bytes.{AreBytes, bytes_of}
-use Rattle.tests.specs.FirstHit.{refusal}
 use Rattle.reader.specs.Scan.{readable, refused, says}
 use Rattle.reader.specs.File.{records_of, file_model}
 use Rattle.reader.specs.Encoding.{model_records, encode, Encodable}
 use Rattle.reader.specs.Promise.{start_of}
-use Rattle.writer.specs.declared.Written.TheVariants.{Appended, Rejected}
 use Rattle.writer.specs.Append.{answer_of, buffer_of}
 use Rattle.handing.specs.Handing.{handed_in}
 use Rattle.writer.specs.Writing.{calls, write_all}
+use Rattle.tests.specs.Reasons.{refusal}
+use Rattle.tests.specs.declared.Reason.TheVariants.{CutShort}
 
 -- a call with kind k and numbers xs behind `used` bytes of b was a success and left `end` used bytes
 pub record Succeeds (b : List ℕ) (used k : ℕ) (xs : List ℕ) (end : ℕ) : Type 0 where
   pub seventeen : length xs ≡ 17
-  pub answered : answer_of b used (handed_in used k xs) ≡ Appended end
+  pub answered : answer_of b used (handed_in used k xs) ≡ Ok end
 
 -- the used part after it
 unfoldable pub used_part : List ℕ → ℕ → ℕ → List ℕ → ℕ → List ℕ
@@ -40,14 +40,14 @@ unfoldable pub ModelRoundTrip : Type 0
 ModelRoundTrip =
     (M : Model) → Encodable M → (b : List ℕ) → length (encode M) ≤ length b
     → (write_all (model_records M ++ (end_record 0 ∷ [])) b 0
-    ≡ calls (Appended (length (encode M))) (encode M ++ drop (length (encode M)) b))
+    ≡ calls (Ok (length (encode M))) (encode M ++ drop (length (encode M)) b))
     × (says (encode M) ≡ readable) × (file_model (encode M) ≡ M)
 
 -- reading a file and writing its records gives the same bytes
 unfoldable pub FileRoundTrip : Type 0
 FileRoundTrip =
     (s : List ℕ) → AreBytes s → says s ≡ readable → (b : List ℕ) → length s ≤ length b
-    → write_all (records_of s) b 0 ≡ calls (Appended (length s)) (s ++ drop (length s) b)
+    → write_all (records_of s) b 0 ≡ calls (Ok (length s)) (s ++ drop (length s) b)
 
 -- a brownout: what a success left, cut before its end, is refused with 2 at the record that is cut or missing
 unfoldable pub BrownoutRefused : Type 0
@@ -62,5 +62,5 @@ NothingBehindCut =
     (b : List ℕ) (used k : ℕ) (xs : List ℕ) (end : ℕ) → Succeeds b used k xs end
     → (cut : ℕ) → cut < end → start_of (records_of (used_part b used k xs end)) cut < cut
     → (r : Record) → (answer_of (buffer_of b used (handed_in used k xs)) cut r
-    ≡ Rejected (refusal 2 (start_of (records_of (used_part b used k xs end)) cut)))
+    ≡ Err (refusal CutShort (start_of (records_of (used_part b used k xs end)) cut)))
     × (buffer_of (buffer_of b used (handed_in used k xs)) cut r ≡ buffer_of b used (handed_in used k xs))

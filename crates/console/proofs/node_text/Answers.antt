@@ -1,38 +1,58 @@
-use Rattle.std.proofs.Common.{arith}
-use Rattle.report.proofs.Standing.{node_short}
+use Rattle.std.proofs.Common.{rules, arith, ◌≡◌, ℕ, ◌+◌, ◌≤◌, ◌<◌, ◌∙◌, List, ◌++◌, ap, sym, length, take, drop, get_or}
+use Rattle.std.proofs.Common.{refl}
+use Rattle.std.proofs.Common.{add-one, drop-cons, append_assoc, append-nil, length-append, length-take}
+use Rattle.std.proofs.Common.{drop_of_length-le}
+use mathlib.Core.List.{flat_map}
+use Rattle.std.proofs.lemmas.Grind.{common_steps}
+use Rattle.report.specs.Text.{pair_line, line, hex}
 use Rattle.report.proofs.Counting.{count_within}
-use Rattle.console.proofs.Gathering.{line_fits, pair_fits, gather_start, gather_on, gather_end}
+use Rattle.console.specs.Output.{text_of}
 use Rattle.console.proofs.node_text.Goals as goal
 
-pub add_line-at-requires : goal.add_line-at-requires
-add_line-at-requires c =
-    let few = count_within c.args.section.now in
-    let fits = line_fits _ _ _ c.node_line.ensures.text c.node_line.ensures.length
-    (node_short c.args.k c.args.kind c.pair_count-count.result (omega arith) (omega arith)) in
-    (omega arith, fits.0, fits.1, c.requires.1)
+pair_length : (x : ℕ) → length (pair_line x) ≡ 10
+unfolding pair_line line hex
+pair_length x = refl
 
-pub loop-i-init : goal.loop-i-init
-loop-i-init c = (
-  gather_start _ _ _ _ _ _ _ _ _ c.pair_count-count.ensures c.requires.0 c.requires.1 c.node_line.ensures.text
-      c.node_line.ensures.length c.add_line-at.ensures,
-  c.requires.0,
-)
+-- one more pair's line
+line_on : (text xs t : List ℕ) (i : ℕ) → i < length xs → text ++ flat_map pair_line (drop i xs) ≡ t
+    → (text ++ pair_line (get_or xs i 0)) ++ flat_map pair_line (drop (i + 1) xs) ≡ t
+unfolding flat_map
+line_on text xs t i h e =
+    rw add-one
+    (append_assoc text _ _ ∙ ap (λ ys. text ++ flat_map pair_line ys) (sym (drop-cons xs i 0 h)) ∙ e)
 
-pub bounds-section-i : goal.bounds-section-i
-bounds-section-i c = omega (arith, count_within c.args.section.now, c.loop-i.invariant.0.count_is)
+pub slice_bounds-x-items-end : goal.slice_bounds-x-items-end
+slice_bounds-x-items-end c = grind (arith, common_steps, count_within c.args.section.now)
 
-pub add_line-at-requires-in-loop-i : goal.add_line-at-requires-in-loop-i
-add_line-at-requires-in-loop-i c =
-    let fits = pair_fits _ _ _ c.pair_line.ensures.text c.pair_line.ensures.length in
-    let so_far = c.loop-i.invariant.0 in
-    (omega (arith, so_far.few, so_far.near), fits.0, fits.1, so_far.size)
+pub loop-x-init : goal.loop-x-init
+unfolding text_of
+loop-x-init c =
+    let short : length c.node_line.result.items ≤ 40 = search rules in
+    record {
+      on = rw (c.add_line.ensures, c.clear.ensures, c.node_line.ensures, c.pair_count-count.ensures);
+      short = rw (c.add_line.ensures, c.clear.ensures) short;
+    }
 
-pub loop-i-preserved : goal.loop-i-preserved
-loop-i-preserved c = (
-  gather_on _ _ _ _ _ _ _ _ _ _ _ c.loop-i.invariant.0 (omega arith) c.pair_line.ensures.text
-      c.pair_line.ensures.length c.add_line-at-in-loop-i.ensures,
-  c.loop-i.invariant.1,
-)
+pub add_line-requires-in-loop-x : goal.add_line-requires-in-loop-x
+add_line-requires-in-loop-x c =
+    omega (arith, ap length c.pair_line.ensures, pair_length, length-take c.pair_count-count.result c.args.section.now)
+
+pub loop-x-preserved : goal.loop-x-preserved
+loop-x-preserved c =
+    record {
+      on = rw (c.add_line-in-loop-x.ensures, c.pair_line.ensures)
+          (line_on _ _ _ _ c.loop-x-test.true c.loop-x.invariant.on);
+      short = omega (
+        arith,
+        ap length c.add_line-in-loop-x.ensures,
+        ap length c.pair_line.ensures,
+        pair_length,
+        length-append {A = ℕ},
+      );
+    }
 
 pub returns : goal.returns
-returns c = gather_end _ _ _ _ _ _ _ c.loop-i.invariant.0 (omega arith)
+unfolding flat_map
+returns c =
+    let none = drop_of_length-le (take c.pair_count-count.result c.args.section.now) c.loop-x-test.false in
+    sym (append-nil c.loop-x.text.items) ∙ rw none at c.loop-x.invariant.on

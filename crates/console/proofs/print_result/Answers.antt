@@ -1,37 +1,34 @@
-use Rattle.std.proofs.Common.{arith, refl, Ok, Err, subst}
-use Rattle.std.specs.Io.KnownBytes.{Appends}
+use Rattle.std.proofs.Common.{◌≡◌, arith, sym, Ok, subst, rules}
+use Rattle.verdict.specs.declared.Verdict.TheVariants.{Pass, Inconclusive}
 use Rattle.verdict.specs.Answers.{verdict_of}
 use Rattle.console.specs.Output.{IsWritten}
 use Rattle.console.proofs.Printing.{answer_begins, answer_long, answer_pass, answer_inconclusive, answer_refused}
-use Rattle.console.proofs.Writing.{ok_written, written_out, written_behind, written_not}
+use Rattle.console.proofs.Writing.{part_left, part_failed}
 use Rattle.console.proofs.print_result.Goals as goal
 
 pub returns-in_err-print_first : goal.returns-in_err-print_first
 returns-in_err-print_first g c =
-    let begins = answer_begins c.args.bytes.now (verdict_of c.args.a) c.args.area.now in
-    subst (IsWritten c.from_residual.result _ _) begins.1
-    (written_not (Err c.in_err-print_first.field-0.0) c.from_residual.result _ _ _ begins.0 refl c.from_residual.ensures.0 c.in_err-print_first.ensures)
+    part_failed _ _ _ _ _ _ _ (sym (answer_begins c.args.bytes.now (verdict_of c.args.a) c.args.area.now).1)
+    c.from_residual.ensures.0 c.in_err-print_first.ensures
 
 pub returns-then-bytes-gt4096 : goal.returns-then-bytes-gt4096
 returns-then-bytes-gt4096 g c =
-    ok_written (Ok tt) _ _ _ refl
-    (subst (Appends _ _) (answer_long c.args.bytes.now (verdict_of c.args.a) c.args.area.now (omega arith))
-    (written_out (Ok tt) _ _ _ c.in_ok-print_first.ensures refl))
+    subst (IsWritten _ _ _) (answer_long c.args.bytes.now (verdict_of c.args.a) c.args.area.now (omega arith))
+    c.in_ok-print_first.ensures
 
-pub returns-in-Pass : goal.returns-in-Pass
-returns-in-Pass g c =
-    subst (IsWritten c.print_nodes.result _ _)
-    (answer_pass c.args.bytes.now c.args.area.now c.args.a _ c.in-Pass.is (omega arith))
-    (written_behind c.print_nodes.result _ _ _ _ _ (written_out (Ok tt) _ _ _ c.in_ok-print_first.ensures refl) c.print_nodes.ensures)
+pub returns-in-Ok-Pass : goal.returns-in-Ok-Pass
+returns-in-Ok-Pass g c =
+    let e : c.args.a ≡ Ok (Pass c.in-Ok-Pass.field-0-0) = search rules in
+    part_left _ _ _ _ _ (sym (answer_pass c.args.bytes.now c.args.area.now c.args.a _ e (omega arith)))
+    c.in_ok-print_first.ensures _ _ c.print_nodes.ensures
 
-pub returns-in-Inconclusive : goal.returns-in-Inconclusive
-returns-in-Inconclusive g c =
-    ok_written (Ok tt) _ _ _ refl
-    (subst (Appends _ _) (answer_inconclusive c.args.bytes.now c.args.area.now c.args.a _ c.in-Inconclusive.is)
-    (written_out (Ok tt) _ _ _ c.in_ok-print_first.ensures refl))
+pub returns-in-Ok-Inconclusive : goal.returns-in-Ok-Inconclusive
+returns-in-Ok-Inconclusive g c =
+    let e : c.args.a ≡ Ok (Inconclusive c.in-Ok-Inconclusive.field-0-0) = search rules in
+    subst (IsWritten _ _ _) (answer_inconclusive c.args.bytes.now c.args.area.now c.args.a _ e)
+    c.in_ok-print_first.ensures
 
-pub returns-in-Refused : goal.returns-in-Refused
-returns-in-Refused g c =
-    ok_written (Ok tt) _ _ _ refl
-    (subst (Appends _ _) (answer_refused c.args.bytes.now c.args.area.now c.args.a _ c.in-Refused.is)
-    (written_out (Ok tt) _ _ _ c.in_ok-print_first.ensures refl))
+pub returns-in-Err : goal.returns-in-Err
+returns-in-Err g c =
+    subst (IsWritten _ _ _) (answer_refused c.args.bytes.now c.args.area.now c.args.a _ c.in-Err.is)
+    c.in_ok-print_first.ensures

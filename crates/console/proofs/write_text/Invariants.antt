@@ -1,11 +1,10 @@
--- What was written is a beginning of the text.
-use Rattle.std.proofs.Common.{length, ◌-◌, ◌≤◌, take}
-use Rattle.std.specs.Io.KnownBytes.{Appends}
+-- The rest of the text is left.
+use Rattle.std.proofs.Common.{length}
+use Rattle.console.proofs.Writing.{Leaves}
 use Rattle.console.proofs.write_text.Given as goal
 
-abbrev pub invariant-loop-done : goal.invariant-loop-done
-invariant-loop-done g l =
-    (l.done ≤ length l.text) × Appends (g.W.Write.contents l.initial.out) (g.W.Write.contents l.out) (take l.done l.text)
+abbrev pub invariant-loop-rest : goal.invariant-loop-rest
+invariant-loop-rest g l = Leaves (g.W.Write.contents l.initial.out) l.text (g.W.Write.contents l.out) l.rest
 
-abbrev pub decreases-loop-done : goal.decreases-loop-done
-decreases-loop-done g l = length l.text - l.done
+abbrev pub decreases-loop-rest : goal.decreases-loop-rest
+decreases-loop-rest g l = length l.rest

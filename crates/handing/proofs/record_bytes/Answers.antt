@@ -1,84 +1,51 @@
-use Rattle.std.proofs.Common.{arith, sym, ◌∙◌}
-use Rattle.handing.proofs.Handing.{bytes_step, bytes_join, bytes_hide, bytes_rename, bytes_end, bytes_other}
-use Rattle.handing.proofs.Handing.{bytes_number}
+use Rattle.std.proofs.Common.{rules, ◌≡◌, ◌<◌, ◌∙◌, sym, length, map, get_or}
+use Rattle.std.proofs.lemmas.List.{length-map}
+use Rattle.std.proofs.lemmas.Grind.{same_number_lists}
+use Rattle.std.proofs.Math.ListN.{get_or-map}
+use Rattle.records.proofs.Sizes.{size_other}
+use Rattle.records.specs.Kinds.{size_of, body_length}
+use Rattle.decoding.specs.Bytes.{bytes_of}
+use Rattle.handing.specs.Handing.{low_byte, record_array}
+use Rattle.handing.proofs.Handing.{kind_alone}
 use Rattle.handing.proofs.record_bytes.Goals as goal
 
-pub returns-then-r-eq-STEP : goal.returns-then-r-eq-STEP
-returns-then-r-eq-STEP c = (
-  rw (
-    c.five_bytes.ensures,
-    c.low_byte-k.ensures,
-    c.low_byte.ensures,
-    c.low_byte-then-r-eq-STEP.ensures,
-    c.low_byte-then-r-eq-STEP-2.ensures,
-  )
-      (bytes_step c.args.r
-      c.if-r-eq-STEP.true),
-  omega arith,
-)
+pub returns-in-Ok-Header : goal.returns-in-Ok-Header
+unfolding record_array bytes_of size_of body_length
+returns-in-Ok-Header c = search rules
 
-pub returns-then-r-eq-JOIN : goal.returns-then-r-eq-JOIN
-returns-then-r-eq-JOIN c = (
-  rw (
-    c.five_bytes-then-r-eq-JOIN.ensures,
-    c.low_byte-k.ensures,
-    c.low_byte-then-r-eq-JOIN.ensures,
-    c.low_byte-then-r-eq-JOIN-2.ensures,
-    c.low_byte-then-r-eq-JOIN-3.ensures,
-    c.low_byte-then-r-eq-JOIN-4.ensures,
-  )
-      (bytes_join c.args.r c.if-r-eq-JOIN.true),
-  omega arith,
-)
+pub returns-in-Ok-Step : goal.returns-in-Ok-Step
+unfolding record_array bytes_of size_of body_length
+returns-in-Ok-Step c = search rules
 
-pub returns-then-r-eq-HIDE : goal.returns-then-r-eq-HIDE
-returns-then-r-eq-HIDE c = (
-  rw (
-    c.five_bytes-then-r-eq-HIDE.ensures,
-    c.low_byte-k.ensures,
-    c.low_byte-then-r-eq-HIDE.ensures,
-    c.low_byte-then-r-eq-HIDE-2.ensures,
-    c.low_byte-then-r-eq-HIDE-3.ensures,
-  )
-      (bytes_hide c.args.r c.if-r-eq-HIDE.true),
-  omega arith,
-)
+pub returns-in-Ok-Join : goal.returns-in-Ok-Join
+unfolding record_array bytes_of size_of body_length
+returns-in-Ok-Join c = search rules
 
-pub returns-then-r-eq-RENAME : goal.returns-then-r-eq-RENAME
-returns-then-r-eq-RENAME c = (
-  rw (
-    c.with_targets.ensures.0,
-    c.five_bytes-then-r-eq-RENAME.ensures,
-    c.low_byte-k.ensures,
-    c.low_byte-then-r-eq-RENAME.ensures,
-  ) (bytes_rename c.args.r c.if-r-eq-RENAME.true c.with_targets.ensures.1),
-  omega arith,
-)
+pub returns-in-Ok-Hide : goal.returns-in-Ok-Hide
+unfolding record_array bytes_of size_of body_length
+returns-in-Ok-Hide c = search rules
 
-pub returns-then-r-eq-END : goal.returns-then-r-eq-END
-returns-then-r-eq-END c = (
-  rw (
-    c.five_bytes-then-r-eq-END.ensures,
-    c.low_byte-k.ensures,
-    c.low_byte-then-r-eq-END.ensures,
-    c.low_byte-then-r-eq-END-2.ensures,
-  ) (bytes_end c.args.r c.if-r-eq-END.true),
-  omega arith,
-)
+pub returns-in-Ok-End : goal.returns-in-Ok-End
+unfolding record_array bytes_of size_of body_length
+returns-in-Ok-End c = search rules
 
-pub returns-then-size_of-eq1 : goal.returns-then-size_of-eq1
-returns-then-size_of-eq1 c = (
-  rw (c.five_bytes-then-size_of-eq1.ensures, c.low_byte-k.ensures)
-      (bytes_other c.args.r (sym c.size_of.ensures ∙ c.if-size_of-eq1.true)),
-  omega arith,
-)
+pub returns-in-Ok-Rename : goal.returns-in-Ok-Rename
+unfolding record_array bytes_of size_of body_length
+returns-in-Ok-Rename c =
+    let xs = c.args.r.targets in
+    let m = c.map.ensures.items in
+    let sixteen : length xs ≡ 16 = search rules in
+    let lows : c.map.result ≡ map low_byte xs =
+    same_number_lists _ _ (simp (length-map, sixteen) m.long)
+    (λ k h. let n : k < 16 = rw m.long at h in
+    let called = (m.at k 0 0 n).2 in
+    let low : get_or c.map.result k 0 ≡ low_byte (get_or xs k 0) = search rules in
+    low ∙ sym (get_or-map low_byte xs k 0)) in
+    search rules
 
-pub returns : goal.returns
-returns c = (
-  rw (
-    c.five_bytes-2.ensures,
-    c.low_byte-k.ensures,
-    c.low_byte-2.ensures,
-  ) (bytes_number c.args.r c.if-r-eq-STEP.false c.if-r-eq-JOIN.false c.if-r-eq-HIDE.false c.if-r-eq-RENAME.false c.if-r-eq-END.false (λ s. c.if-size_of-eq1.false (c.size_of.ensures ∙ s))),
-  omega arith,
-)
+pub returns-in-Err : goal.returns-in-Err
+unfolding record_array
+returns-in-Err c =
+    let size = size_other c.args.r.kind c.in-Err.ensures.1 in
+    let alone = kind_alone c.args.r size in
+    search rules

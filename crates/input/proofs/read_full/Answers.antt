@@ -1,28 +1,22 @@
 -- A part that is read stands behind what was read before it.
-use Rattle.std.proofs.Common.{rules, arith, ◌≡◌, ℕ, ◌+◌, ◌-◌, ◌≤◌, length, take, List, ◌++◌, slice_range, sym, ap, ◌∙◌, subst, le_refl, drop_at, length-take-le}
-use Rattle.std.proofs.lemmas.Slice.{take-put_mid_below}
+use Rattle.std.proofs.Common.{rules, ◌≡◌, ℕ, ◌+◌, ◌≤◌, length, take, List, ◌++◌, sym, ap, ◌∙◌, length-take-le, subst}
 use Rattle.std.specs.Io.KnownBytes.{Consumes}
 use Rattle.std.proofs.KnownBytes.{Consumes-trans}
 use borrow.Rule.Slice.PartMut.{put_mid, post_of}
-use lib.Seq.{take-add, take-append-le}
+use lib.Seq.{take-append-add, take-append-le}
 use Rattle.input.proofs.read_full.Goals as goal
 
-take_split : (a b : ℕ) (old new : List ℕ) → a ≤ b → take a new ≡ take a old → take a old ++ slice_range new a b ≡ take b new
-take_split a b old new h front =
-    let same : a + (b - a) ≡ b = omega arith in
-    ap (λ l. l ++ slice_range new a b) (sym front) ∙ sym (take-add a (b - a) new) ∙ ap (λ n. take n new) same
-
-slice_range-put_mid : (a k n : ℕ) (xs ys : List ℕ) → a ≤ length xs → n ≤ length ys → slice_range (put_mid a k xs ys) a (a + n) ≡ take n ys
-slice_range-put_mid a k n xs ys within fits =
-    let same : (a + n) - a ≡ n = omega arith in
-    let after = post_of a k xs in
-    ap (take ((a + n) - a)) (drop_at (take a xs) (ys ++ after) a (length-take-le a xs within)) ∙ ap (λ m. take m (ys ++ after)) same ∙ take-append-le n ys after fits
+stands_behind : (a k n : ℕ) (xs ys : List ℕ) → a ≤ length xs → n ≤ length ys
+    → take a xs ++ take n ys ≡ take (a + n) (put_mid a k xs ys)
+stands_behind a k n xs ys within fits =
+    ap (λ l. take a xs ++ l) (sym (take-append-le n ys (post_of a k xs) fits))
+    ∙ sym (take-append-add (take a xs) (ys ++ post_of a k xs) n)
+    ∙ ap (λ m. take (m + n) (put_mid a k xs ys)) (length-take-le a xs within)
 
 pub loop-count-preserved : goal.loop-count-preserved
 loop-count-preserved g c =
-    let from = c.loop-count.count in
-    let room = length c.loop-count.room - from in
-    let within = c.loop-count.invariant.1 in
-    let part = slice_range-put_mid from room c.in-Ok.n c.loop-count.room c.read.new.buf within c.in-Ok.ensures.bound.0 in
-    let joined = take_split from (from + c.in-Ok.n) c.loop-count.room (put_mid from room c.loop-count.room c.read.new.buf) (omega arith) (take-put_mid_below _ _ _ _ _ (le_refl _) within) in
-    (search rules, search rules, subst (Consumes _ _) (ap (λ l. take from c.loop-count.room ++ l) (sym part) ∙ joined) (Consumes-trans _ _ _ _ _ c.loop-count.invariant.2 c.in-Ok.ensures.bytes.0))
+    let joined = stands_behind c.loop-count.count _ c.in-Ok.n c.loop-count.room c.read.new.buf
+    c.loop-count.invariant.0 c.in-Ok.ensures.bound.0 in (
+      search rules,
+      subst (Consumes _ _) joined (Consumes-trans _ _ _ _ _ c.loop-count.invariant.1 c.in-Ok.ensures.bytes.0),
+    )

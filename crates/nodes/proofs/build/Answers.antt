@@ -1,21 +1,14 @@
-use Rattle.nodes.proofs.NodeLists.{ready_parts, gives_parts, built_over, built_fits}
+use Rattle.std.proofs.Common.{sym, ap, ◌∙◌}
+use Rattle.std.specs.Prelude.{Some}
+use Rattle.nodes.proofs.NodeLists.{built_over, built_fits}
 use Rattle.nodes.proofs.build.Goals as goal
 
-pub node_list-list-requires : goal.node_list-list-requires
-node_list-list-requires c = let g = c.args in
-    ready_parts g.o g.area.now g.bytes.now g.n g.r
-    c.requires.0
-
 pub returns-then-t : goal.returns-then-t
-returns-then-t c = let g = c.args in
-    let w = gives_parts g.o g.area.now g.bytes.now g.r _ _ _ c.node_list-list.ensures in
-    built_over _ g.k g.area.now _ _ _ w c.if-t.true
+returns-then-t c =
+    let w = built_over _ _ c.node_list-list.ensures c.args.sections.now (sym c.tally-t.ensures.over ∙ c.if-t.true) in
+    record { count = w.0; area = w.1 }
 
 pub returns : goal.returns
 returns c =
-    let g = c.args in
-    let w = gives_parts g.o g.area.now g.bytes.now g.r _ _ _
-    c.node_list-list.ensures in
-    built_fits _ g.k g.area.now _ _ _ w c.if-t.false
-    c.requires.2
-    _ c.store.ensures
+    let w = built_fits _ _ c.node_list-list.ensures c.args.sections.now (sym c.tally-t.ensures.over ∙ c.if-t.false) in
+    record { count = ap Some c.tally-t.ensures.count ∙ w.0; area = c.store.ensures ∙ w.1 }

@@ -1,45 +1,33 @@
-use Rattle.std.proofs.Common.{arith}
-use Rattle.nodes.proofs.NodeLists.{leaf_gives, join_gives, rename_gives, hide_gives}
-use Rattle.places.proofs.Multiplying.{bytes_in}
+use Rattle.std.proofs.Common.{rules, arith}
+use Rattle.std.proofs.lemmas.Grind.{common_steps}
+use Rattle.nodes.proofs.NodeLists.{leaf_gives, join_gives, hide_gives, rename_gives}
 use Rattle.nodes.proofs.node_list.Goals as goal
+use Rattle.nodes.proofs.node_list.Goals.{in_default-via-in-Ok+in_default, in_default-via-in_default}
 
-pub returns-then-r-eq-LEAF : goal.returns-then-r-eq-LEAF
-returns-then-r-eq-LEAF c = let g = c.args in
-    let y = bytes_in g.bytes.now
-    (λ i. omega (arith, c.shared_slice_known-1.given i)) in
-    leaf_gives g.bytes.now y g.n g.r g.xs.now g.ys.now
-    c.requires _ _ _ c.if-r-eq-LEAF.true c.leaf_list.ensures
+pub returns-in-Ok-Leaf : goal.returns-in-Ok-Leaf
+returns-in-Ok-Leaf c =
+    let g = c.args in leaf_gives g.file g.r g.o.left.now g.o.right.now c.requires _ (search rules) c.leaf_list.ensures
 
-pub returns-then-r-eq-RENAME : goal.returns-then-r-eq-RENAME
-returns-then-r-eq-RENAME c = let g = c.args in
-    let y = bytes_in g.bytes.now
-    (λ i. omega (
-      arith,
-      c.shared_slice_known-1.given i,
-    )) in
-    rename_gives g.bytes.now y g.n g.r g.xs.now g.ys.now
-    c.requires _ _ _
-    c.if-r-eq-RENAME.true c.rename.ensures
+pub returns-in-Ok-Join : goal.returns-in-Ok-Join
+returns-in-Ok-Join c =
+    let g = c.args in
+    join_gives g.file g.r g.o.left.now g.o.right.now c.requires _ (search rules)
+    (rw c.from_bits-set.ensures at c.join.ensures)
 
-pub returns-then-r-eq-JOIN : goal.returns-then-r-eq-JOIN
-returns-then-r-eq-JOIN c = let g = c.args in
-    let y = bytes_in g.bytes.now
-    (λ i. omega (
-      arith,
-      c.shared_slice_known-1.given i,
-    )) in
-    join_gives g.bytes.now y g.n g.r g.xs.now g.ys.now
-    c.requires _ _ _
-    c.if-r-eq-JOIN.true c.join.ensures
+pub returns-in-Ok-Hide : goal.returns-in-Ok-Hide
+returns-in-Ok-Hide c =
+    let g = c.args in
+    hide_gives g.file g.r g.o.left.now g.o.right.now c.requires _ (search rules)
+    (rw c.from_bits-set.ensures at c.hide.ensures)
 
-pub returns : goal.returns
-returns c = let g = c.args in
-    let y = bytes_in g.bytes.now
-    (λ i. omega (
-      arith,
-      c.shared_slice_known-1.given i,
-    )) in
-    hide_gives g.bytes.now y g.n g.r g.xs.now g.ys.now
-    c.requires _ _ _
-    c.if-r-eq-LEAF.false c.if-r-eq-JOIN.false
-    c.if-r-eq-RENAME.false c.hide.ensures
+pub returns-in_default : goal.returns-in_default
+returns-in_default c =
+    let g = c.args in
+    elim c.in_default.branch [
+      | in_default-via-in-Ok+in_default w ↦
+          rename_gives g.file g.r g.o.left.now g.o.right.now c.requires _ (grind (arith, common_steps))
+          (grind (arith, common_steps)) (grind (arith, common_steps)) c.rename.ensures
+      | in_default-via-in_default w ↦
+          rename_gives g.file g.r g.o.left.now g.o.right.now c.requires _ (grind (arith, common_steps))
+          (grind (arith, common_steps)) (grind (arith, common_steps)) c.rename.ensures
+    ]

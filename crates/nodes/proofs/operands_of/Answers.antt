@@ -1,26 +1,20 @@
-use Rattle.std.proofs.Common.{eq-eqb, ne_eqb}
-use Rattle.nodes.specs.Nodes.{operands_of}
+use Rattle.std.proofs.Common.{sym, ◌∙◌, rules}
+use Rattle.nodes.specs.Nodes.{left_of, right_of}
 use Rattle.nodes.proofs.operands_of.Goals as goal
+use Rattle.nodes.proofs.operands_of.Goals.{then-is, else-is, then-is-2, else-is-2}
 
-pub returns-then-r-eq-LEAF : goal.returns-then-r-eq-LEAF
-unfolding operands_of
-returns-then-r-eq-LEAF c = let g = c.args in
-    rw (eq-eqb g.r.kind 4 c.if-r-eq-LEAF.true)
+pub returns-clause-left : goal.returns-clause-left
+unfolding left_of
+returns-clause-left c =
+    elim c.if-is.branch [
+      | then-is w ↦ rw (sym c.is.ensures ∙ w.if-is.true) (search rules)
+      | else-is w ↦ rw (sym c.is.ensures ∙ w.if-is.false) (search rules)
+    ]
 
-pub returns-then-r-eq-JOIN : goal.returns-then-r-eq-JOIN
-unfolding operands_of
-returns-then-r-eq-JOIN c = let g = c.args in
-    rw (
-      ne_eqb g.r.kind 4 c.if-r-eq-LEAF.false,
-      eq-eqb g.r.kind 5
-          c.if-r-eq-JOIN.true,
-    )
-
-pub returns : goal.returns
-unfolding operands_of
-returns c = let g = c.args in
-    rw (
-      ne_eqb g.r.kind 4 c.if-r-eq-LEAF.false,
-      ne_eqb g.r.kind 5
-          c.if-r-eq-JOIN.false,
-    )
+pub returns-clause-right : goal.returns-clause-right
+unfolding right_of
+returns-clause-right c =
+    elim c.if-is-2.branch [
+      | then-is-2 w ↦ rw (sym c.is-2.ensures ∙ w.if-is-2.true) (search rules)
+      | else-is-2 w ↦ rw (sym c.is-2.ensures ∙ w.if-is-2.false) (search rules)
+    ]

@@ -1,17 +1,14 @@
-use Rattle.std.proofs.Common.{arith, rules}
-use Rattle.ranges.proofs.Ranges.{targets_step, targets_end}
+use Rattle.std.proofs.Common.{◌∙◌, ℕ, rules, tests}
+use Rattle.std.proofs.lemmas.Iterator.{YieldsList-from_slice}
+use Rattle.std.proofs.lemmas.Iterator.Consumers.{YieldsList-from_enumerate}
+use Rattle.std.proofs.lemmas.Iterator.Search.{any_from_yields_List}
+use Rattle.ranges.specs.Ranges.{wrong_target}
+use Rattle.ranges.proofs.Ranges.{wrong_any}
 use Rattle.ranges.proofs.wrong_targets.Goals as goal
-
-pub loop-i-preserved : goal.loop-i-preserved
-loop-i-preserved c = (
-  search rules,
-  rw c.wrong_target-wrong.ensures
-      (targets_step c.args.n c.loop-i.i
-      c.args.targets c.loop-i.wrong _ (omega arith)
-      c.loop-i.invariant.1),
-)
 
 pub returns : goal.returns
 returns c =
-    targets_end c.args.n c.loop-i.i c.args.targets c.loop-i.wrong
-    _ (omega arith) c.loop-i.invariant.1
+    any_from_yields_List (λ (p : ℕ × ℕ). wrong_target c.args.n p.0 p.1) _ _ _ c.any.ensures.ran
+    (YieldsList-from_enumerate (YieldsList-from_slice c.args.targets (cc)) (cc))
+    (λ x b q k. search (rules, tests))
+    ∙ wrong_any c.args.n 0 c.args.targets

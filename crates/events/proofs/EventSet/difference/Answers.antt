@@ -1,9 +1,0 @@
-use Rattle.std.proofs.Common.{arith, sym}
-use Rattle.events.proofs.Machine.{difference_is}
-use Rattle.events.proofs.EventSet.difference.Goals as goal
-
-pub returns : goal.returns
-returns c =
-    let s = c.args.self.bits in
-    let t = c.args.t.bits in
-    sym (difference_is 32 32 s t (omega arith) (omega arith) (omega arith))
