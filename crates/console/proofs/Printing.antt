@@ -3,14 +3,15 @@ use Rattle.std.proofs.Common.{◌≡◌, refl, sym, ap, List, [], ◌∷◌, ◌
 use Rattle.std.proofs.Common.{zero, suc, ◌+◌, ◌-◌, ◌*◌, ◌≤◌, ◌<◌, arith, length, take, drop, length-drop, add-one}
 use Rattle.std.proofs.Common.{ne_eqb, lt-ltb, le-ltb}
 use Rattle.std.specs.List.{slice_get}
+use Rattle.std.specs.Prelude.{Result}
 use Rattle.network.specs.Verdict.{Verdict, pass, inconclusive, refused}
 use Rattle.records.specs.Kinds.{end_kind, size_of}
 use Rattle.records.proofs.Sizes.{size_positive}
-use Rattle.tests.specs.declared.Refusal.{Refusal}
 use Rattle.places.specs.Finding.{node_place}
+use Rattle.verdict.specs.declared.Verdict as Judged
 use Rattle.verdict.specs.declared.Verdict.TheVariants.{Pass, Inconclusive}
-use Rattle.verdict.specs.Answers.{verdict_of, Answer}
 use Rattle.report.specs.Text.{first_line}
+use Rattle.report.specs.Said.{verdict_by}
 use Rattle.analysis.specs.Promise.{section}
 use Rattle.console.specs.Output.{text_of}
 use Rattle.console.specs.Walking.{walked, most_records}
@@ -74,18 +75,20 @@ answer_long s (pass b) area h = rw (lt-ltb 4096 (length s) h) (sym (append-nil (
 answer_long s (inconclusive k) area h = refl
 answer_long s (refused number place) area h = refl
 
-pub answer_pass : (s area : List ℕ) (a : Answer) (b : ℕ) → a ≡ Ok (Pass b) → length s ≤ 4096
-    → first_line (verdict_of a) ++ walked most_records area (drop (node_place s 0) s) 0
-    ≡ answer_text s (verdict_of a) area
-unfolding answer_text verdict_of
-answer_pass s area a b q h = rw (q, le-ltb 4096 (length s) h) refl
+-- an answer with refusals of any type
+module _ {R : Type 0} (number place : R → ℕ) (s area : List ℕ) (a : Result Judged.Verdict R) where
+  abbrev v : Verdict
+  v = verdict_by number place a
 
-pub answer_inconclusive : (s area : List ℕ) (a : Answer) (k : ℕ) → a ≡ Ok (Inconclusive k)
-    → first_line (verdict_of a) ≡ answer_text s (verdict_of a) area
-unfolding answer_text verdict_of
-answer_inconclusive s area a k q = rw q refl
+  pub answer_pass : (b : ℕ) → a ≡ Ok (Pass b) → length s ≤ 4096
+      → first_line v ++ walked most_records area (drop (node_place s 0) s) 0 ≡ answer_text s v area
+  unfolding answer_text verdict_by
+  answer_pass b q h = rw (q, le-ltb 4096 (length s) h) refl
 
-pub answer_refused : (s area : List ℕ) (a : Answer) (f : Refusal) → a ≡ Err f
-    → first_line (verdict_of a) ≡ answer_text s (verdict_of a) area
-unfolding answer_text verdict_of
-answer_refused s area a f q = rw q refl
+  pub answer_inconclusive : (k : ℕ) → a ≡ Ok (Inconclusive k) → first_line v ≡ answer_text s v area
+  unfolding answer_text verdict_by
+  answer_inconclusive k q = rw q refl
+
+  pub answer_refused : (f : R) → a ≡ Err f → first_line v ≡ answer_text s v area
+  unfolding answer_text verdict_by
+  answer_refused f q = rw q refl

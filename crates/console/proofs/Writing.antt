@@ -12,23 +12,40 @@ use Rattle.std.proofs.Transfers.{starts_with_of_append}
 use Rattle.records.proofs.Choices.{true_not_false}
 use Rattle.console.specs.Output.{IsWritten}
 
+-- a text behind one that was written
+pub written_behind : {E : Type 0} (r : Result ⊤ E) (a b c : Option (List ℕ)) (t u : List ℕ) → Appends a b t
+    → IsWritten r b c u → IsWritten r a c (t ++ u)
+unfolding IsWritten
+written_behind (Ok x) a b c t u p w = (Appends-trans a b c t u p w.0, tt)
+written_behind (Err e) a b c t u p (w, (begun, s, q)) = (
+  tt,
+  (
+    t ++ begun,
+    starts_with_of_append (t ++ u) (t ++ begun) (drop (length begun) u)
+        (ap (λ v. t ++ v) (starts_with_rest u begun s) ∙ sym (append_assoc t begun (drop (length begun) u))),
+    Appends-trans a b c t begun p q,
+  ),
+)
+
+-- a beginning of a text
+pub begun_written : {E : Type 0} (r : Result ⊤ E) (a b : Option (List ℕ)) (begun rest : List ℕ) → IsErr r → Appends a b begun
+    → IsWritten r a b (begun ++ rest)
+unfolding IsWritten
+begun_written (Ok x) a b begun rest q p = absurd (true_not_false (sym q))
+begun_written (Err e) a b begun rest q p = (tt, (begun, starts_with_of_append (begun ++ rest) begun rest refl, p))
+
+pub some_written : {E : Type 0} (r : Result ⊤ E) (a b : Option (List ℕ)) (t : List ℕ) (done : ℕ) → IsErr r
+    → Appends a b (take done t) → IsWritten r a b t
+some_written r a b t done q p =
+    subst (IsWritten r a b) (take-append-drop done t) (begun_written r a b (take done t) (drop done t) q p)
+
 -- to write the text t behind what a says, u is left to write behind what b says
 abbrev pub Leaves : (a : Option (List ℕ)) → List ℕ → (b : Option (List ℕ)) → List ℕ → Type 0
 Leaves a t b u = (r : Result ⊤ Error) (z : Option (List ℕ)) → IsWritten r b z u → IsWritten r a z t
 
 -- a part of the text is written
 pub part_written : (a b : Option (List ℕ)) (t u : List ℕ) → Appends a b t → Leaves a (t ++ u) b u
-unfolding IsWritten
-part_written a b t u p (Ok x) z w = (Appends-trans a b z t u p w.0, tt)
-part_written a b t u p (Err e) z (w, (begun, s, q)) = (
-  tt,
-  (
-    t ++ begun,
-    starts_with_of_append (t ++ u) (t ++ begun) (drop (length begun) u)
-        (ap (λ v. t ++ v) (starts_with_rest u begun s) ∙ sym (append_assoc t begun (drop (length begun) u))),
-    Appends-trans a b z t begun p q,
-  ),
-)
+part_written a b t u p r z w = written_behind r a b z t u p w
 
 -- its first n bytes
 pub first_written : (a b : Option (List ℕ)) (n : ℕ) (t : List ℕ) → Appends a b (take n t)

@@ -3,9 +3,9 @@
 
 ghost use Rattle.std.specs.Prelude.{◌≡◌, ◌+◌, ◌≤◌, ◌++◌, length, drop};
 ghost use Rattle.arrayvec.specs.ArrayVec.{array_vec_len};
-ghost use Rattle.verdict.specs.Answers.{verdict_of};
 ghost use Rattle.places.specs.Finding.{node_place};
 ghost use Rattle.report.specs.Text.{first_line};
+ghost use Rattle.report.specs.Said.{verdict_by};
 ghost use Rattle.report.specs.Printed.{printed};
 ghost use Rattle.console.specs.Output.{text_of, IsWritten};
 ghost use Rattle.console.specs.Walking.{walked, most_records};
@@ -15,10 +15,9 @@ pub mod promises;
 
 use arrayvec::ArrayVec;
 use records::Kind;
-use report::Line;
+use report::{Line, Numbered};
 use std::io;
 use std::io::{ErrorKind, Read, Write};
-use tests::Refusal;
 use verdict::Verdict;
 
 // A node's text: its line, at most 40 bytes, and at most 256 lines of 10 bytes.
@@ -40,16 +39,17 @@ fn write_text<W: Write>(out: &mut W, text: &[u8]) -> io::Result<()>
 }
 
 // The first line of an answer.
-fn print_first<W: Write>(out: &mut W, a: Result<Verdict, Refusal>) -> io::Result<()>
-    ensures { IsWritten result (W.contents out.old) (W.contents out.new) (first_line (verdict_of a)) }
+fn print_first<W: Write, R: Numbered>(out: &mut W, a: Result<Verdict, R>) -> io::Result<()>
+    ensures { IsWritten result (W.contents out.old) (W.contents out.new)
+        (first_line (verdict_by R.number_of R.place_of a)) }
 {
     write_text(out, report::first_line(a).as_slice())
 }
 
 // A line behind what the text has.
 fn add_line(text: &mut NodeText, line: Line)
-    requires { array_vec_len text.old + array_vec_len line ≤ 2600 }
-    ensures { text.new.items ≡ text.old.items ++ line.items }
+    requires { array_vec_len text.old + length line ≤ 2600 }
+    ensures { text.new.items ≡ text.old.items ++ line }
 {
     text.try_extend_from_slice(line.as_slice()).unwrap();
 }
@@ -106,14 +106,14 @@ fn print_nodes<W: Write>(out: &mut W, bytes: &[u8], area: &[u32]) -> io::Result<
 
 // The printed result for a file: the first line of the answer and, after a pass, its nodes with the area that the
 // analysis left. A file that passes has at most 4,096 bytes.
-pub fn print_result<W: Write>(
+pub fn print_result<W: Write, R: Numbered>(
     out: &mut W,
     bytes: &[u8],
-    a: Result<Verdict, Refusal>,
+    a: Result<Verdict, R>,
     area: &[u32],
 ) -> io::Result<()>
     ensures { IsWritten result (W.contents out.old) (W.contents out.new)
-        (answer_text bytes.now (verdict_of a) area.now) }
+        (answer_text bytes.now (verdict_by R.number_of R.place_of a) area.now) }
 {
     print_first(out, a)?;
     if bytes.len() > 4096 {

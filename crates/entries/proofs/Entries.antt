@@ -1,7 +1,7 @@
 -- The events that an entry has room for: what the operations on sets make of 16 events.
 -- Assumes nothing.
-use Rattle.std.proofs.Common.{◌≡◌, sym, ap, ◌∙◌, Bool, true, ◌&&◌, ℕ, ◌^◌, ◌<◌, ◌≤◌, arith}
-use Rattle.events.specs.Sets.{room, has, set_of, full, intersection, difference}
+use Rattle.std.proofs.Common.{◌≡◌, sym, ap, ap₂, ◌∙◌, Bool, true, not, ◌&&◌, ◌||◌, ℕ, ◌^◌, ◌<◌, ◌≤◌, arith}
+use Rattle.events.specs.Sets.{room, has, set_of, full, union, intersection, difference}
 use Rattle.events.proofs.Members.{set_of_has, set_of_below, set_of_ext, set_of_self}
 use Rattle.events.proofs.Machine.{has_beyond}
 use Rattle.events.proofs.Widths.{set_of_widen, union_widen, intersection_widen, difference_widen}
@@ -58,3 +58,18 @@ joined_widen n k A C₁ C₂ h p q =
       intersection_widen n k (difference n C₁ A) (difference n C₂ A) h (set_of_below n _),
     )
     (union_widen n k _ _ h (set_of_below n _) (set_of_below n _))
+
+-- an event's membership in the C of a join, from its membership in A, C₁ and C₂
+abbrev pub joined_bit : Bool → Bool → Bool → Bool
+joined_bit a c d = ((c && a) || (d && a)) || ((c && not a) && (d && not a))
+
+pub joined_has : (n A C₁ C₂ e : ℕ) → e < n → has (joined_c n A C₁ C₂) e ≡ joined_bit (has A e) (has C₁ e) (has C₂ e)
+joined_has n A C₁ C₂ e l =
+    let within = union n (intersection n C₁ A) (intersection n C₂ A) in
+    let outside = intersection n (difference n C₁ A) (difference n C₂ A) in
+    set_of_has n (λ e. has within e || has outside e) e l
+    ∙ ap₂ ◌||◌
+    (set_of_has n (λ e. has (intersection n C₁ A) e || has (intersection n C₂ A) e) e l
+    ∙ ap₂ ◌||◌ (set_of_has n (λ e. has C₁ e && has A e) e l) (set_of_has n (λ e. has C₂ e && has A e) e l))
+    (set_of_has n (λ e. has (difference n C₁ A) e && has (difference n C₂ A) e) e l
+    ∙ ap₂ ◌&&◌ (set_of_has n (λ e. has C₁ e && not (has A e)) e l) (set_of_has n (λ e. has C₂ e && not (has A e)) e l))

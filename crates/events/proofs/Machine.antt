@@ -10,7 +10,8 @@ use Rattle.std.proofs.lemmas.Nat.Bits.{bit_at_ones, bit_at-pow_same, bit_at-pow_
 use lib.Bits.{or_lt, and_le_l}
 use lib.Count.{ones, ones_step, ones-le}
 use lib.Pow.{pow-lt, ones_lt}
-use Rattle.events.specs.Sets.{room, has, set_of, empty, full, single, union, intersection, difference, count}
+use Rattle.events.specs.Sets.{room, has, set_of, empty, full, single, union, intersection, difference, complement}
+use Rattle.events.specs.Sets.{count}
 use Rattle.events.proofs.Members.{has_ext, set_of_has, set_of_below}
 
 -- membership is a bit
@@ -73,7 +74,7 @@ pub full_is : (n : ℕ) → full n ≡ 2 ^ n - 1
 full_is n =
     set_of_is n (λ e. true) (2 ^ n - 1) (ones_lt n) (λ e l. rw (has_is (2 ^ n - 1) e, bit_at_ones n e l) refl)
 
-single_is : (n d : ℕ) → d < n → single n d ≡ 2 ^ d
+pub single_is : (n d : ℕ) → d < n → single n d ≡ 2 ^ d
 single_is n d h = set_of_is n (λ e. eqb e d) (2 ^ d) (pow-lt h) (λ e l. has_power d e)
 
 pub single_shifted : (d : ℕ) → d < room → 1 * 2 ^ d % 4294967296 ≡ single room d
@@ -97,6 +98,11 @@ difference_is n k s t h hs ht =
     let r = (2 ^ k - 1) - t in
     set_of_is n (λ e. has s e && not (has t e)) (bit_and s r) (omega (arith, and_le_l s r))
     (λ e l. has_and s r e ∙ ap (λ (b : Bool). has s e && b) (has_not k t e ht (omega arith)))
+
+pub complement_is : (n s : ℕ) → s < 2 ^ n → complement n s ≡ (2 ^ n - 1) - s
+complement_is n s h =
+    set_of_is n (λ e. has (full n) e && not (has s e)) ((2 ^ n - 1) - s) (omega (arith, pow_pos n))
+    (λ e l. has_not n s e h l ∙ ap (λ (b : Bool). b && not (has s e)) (sym (set_of_has n (λ e. true) e l)))
 
 -- the count from the lowest event up, as the machine's count of ones goes
 pub count_low : (n s : ℕ) → count (suc n) s ≡ s % 2 + count n (s / 2)

@@ -1,12 +1,12 @@
 -- The list that is built of candidates is their list in order, or is over exactly if that has more than 256 entries; so
 -- the order in which candidates come does not matter. Assumes nothing.
-use Rattle.std.proofs.Common.{◌≡◌, refl, sym, ap, ◌∙◌, true, false, true≢false, List, [], ◌∷◌, ◌++◌, inl, inr}
+use Rattle.std.proofs.Common.{◌≡◌, refl, sym, ap, ◌∙◌, true, false, true≢false, List, [], ◌∷◌, ◌++◌, inl, inr, Bool}
 use Rattle.std.proofs.Common.{ℕ, ◌≤◌, ◌<◌, arith, leb, ltb, le-leb, leb-true, lt-ltb, le-ltb, ltb-false, length}
 use Rattle.std.proofs.lemmas.Bool.{cases_Bool, cases_lt}
 use Rattle.network.specs.Lists.{insert_at, insert_all, in_order}
 use Rattle.network.specs.Verdict.{most_pairs}
 use Rattle.network.proofs.Sorting.{Mem, insert_all_longer, in_order_out, in_order_in, in_order_ascending, ascending_ext}
-use Rattle.filling.specs.Building.{Filling, fits, over, pairs_of, went_over, offer, offer_all, filled, Gives}
+use Rattle.filling.specs.Building.{Filling, fits, over, pairs_of, went_over, offer, offer_all, filled, padded, Made, Gives}
 use Rattle.filling.proofs.Loops.{over_stays, offer_append}
 
 offer_fits : (ys cs : List ℕ) → length (insert_all ys cs) ≤ most_pairs
@@ -47,7 +47,24 @@ filled_is cs h = filled_fits cs (ltb-false most_pairs (length (in_order cs)) (sy
 -- the list that is built of candidates is theirs in order
 pub filled_gives : (cs : List ℕ) → Gives (in_order cs) (filled cs)
 unfolding pairs_of
-filled_gives cs = record { over_exactly = filled_over_is cs; pairs_are = λ h. ap pairs_of (filled_is cs h) }
+filled_gives cs =
+    record {
+      over_exactly = filled_over_is cs;
+      pairs_are = λ h. ap pairs_of (filled_is cs h);
+      count_is = λ h. ap (λ (f : Filling). length (pairs_of f)) (filled_is cs h);
+      entries_are = λ h. ap (λ (f : Filling). padded (pairs_of f)) (filled_is cs h);
+    }
+
+-- what an array holds of candidates is their list, all 256 entries
+pub made_gives : (cs : List ℕ) (count : ℕ) (b : Bool) (entries : List ℕ) → Made (filled cs) count b entries
+    → (b ≡ ltb most_pairs (length (in_order cs))) × (b ≡ false → count ≡ length (in_order cs))
+    × (b ≡ false → entries ≡ padded (in_order cs))
+made_gives cs count b entries m =
+    let gives = filled_gives cs in (
+      m.over_is ∙ gives.over_exactly,
+      λ h. m.count_is ∙ gives.count_is (sym m.over_is ∙ h),
+      λ h. m.entries_are ∙ gives.entries_are (sym m.over_is ∙ h),
+    )
 
 -- a list that is over stays over, so stopping early is right
 pub filled_stays : (cs ds : List ℕ) → went_over (filled cs) ≡ true → filled (cs ++ ds) ≡ filled cs

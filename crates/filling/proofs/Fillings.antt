@@ -1,12 +1,12 @@
 -- A list under construction in its array: what an insertion leaves. Assumes nothing.
-use Rattle.std.proofs.Common.{◌≡◌, refl, sym, ap, ap₂, ◌∙◌, Bool, true, false, List, ◌++◌, ℕ}
-use Rattle.std.proofs.Common.{◌+◌, ◌-◌, ◌≤◌, ◌<◌, arith, le-leb, length, take, drop, replicate}
+use Rattle.std.proofs.Common.{◌≡◌, refl, sym, ap, ap₂, ◌∙◌, Bool, true, false, List, [], ◌∷◌, ◌++◌, ℕ, inl, inr}
+use Rattle.std.proofs.Common.{◌+◌, ◌-◌, ◌≤◌, ◌<◌, arith, le-leb, leb, leb-true, length, take, drop, replicate}
 use Rattle.std.proofs.Common.{take-append-drop, take_at}
 use Rattle.std.proofs.Common.{insert, nat_cmp, Ok, Err}
 use Rattle.std.specs.List.Sorted.{IsBinarySearchResult}
 use Rattle.std.proofs.lemmas.List.Edits.{length-insert}
 use Rattle.std.proofs.lemmas.Grind.{common_steps}
-use Rattle.std.proofs.Common.{rules}
+use Rattle.std.proofs.lemmas.Bool.{cases_Bool}
 use Rattle.std.proofs.Math.Seq.{drop-append-add}
 use Rattle.std.proofs.lemmas.List.{drop-replicate}
 use borrow.Author.Tests.{lt-leb}
@@ -14,9 +14,10 @@ use lib.ListN.{length-replicate}
 use Rattle.network.specs.Lists.{insert_at, Ascending}
 use Rattle.network.specs.Verdict.{most_pairs}
 use Rattle.network.proofs.Sorting.{insert_ascending}
-use Rattle.filling.specs.Building.{pairs_of, went_over, state_of, offer, zeros, padded}
-use Rattle.filling.specs.Building.{Held, stays_over}
-use Rattle.filling.proofs.Places.{held_length, found, insert_there, insert_new}
+use Rattle.filling.specs.Building.{Filling, fits, over, pairs_of, went_over, state_of, offer, offer_all, zeros, padded}
+use Rattle.filling.specs.Building.{Held, Made, stays_over}
+use Rattle.filling.specs.Fields.{state_pairs, state_over, held_length}
+use Rattle.filling.proofs.Places.{found, insert_there, insert_new}
 
 -- a list, then zeros
 pub padded_length : (xs : List ℕ) → length xs ≤ most_pairs → length (padded xs) ≡ most_pairs
@@ -46,14 +47,49 @@ padded_laid n m xs ys zs w l front long back =
     (back ∙ ap (drop m) w.padding ∙ padded_drop (take n xs) m (omega (arith, held_length w))
     ∙ ap (λ (k : ℕ). zeros (most_pairs - k)) (sym long))
 
--- a state of the list, and what an array can hold: ascending, 256 at most
-pub state_pairs : (b : Bool) (xs : List ℕ) → pairs_of (state_of b xs) ≡ xs
-unfolding pairs_of state_of
-state_pairs = search rules
+-- a filling is the state that its pairs and its flag give
+pub state_is : (f : Filling) → state_of (went_over f) (pairs_of f) ≡ f
+unfolding pairs_of went_over state_of
+state_is (fits xs) = refl
+state_is (over xs) = refl
 
-pub state_over : (b : Bool) (xs : List ℕ) → went_over (state_of b xs) ≡ b
-unfolding went_over state_of
-state_over = search rules
+-- what an array can hold: ascending, 256 at most; offers keep it
+unfoldable pub Sound : Filling → Type 0
+Sound f = Ascending (pairs_of f) × (length (pairs_of f) ≤ most_pairs)
+
+offer_sound : (f : Filling) (x : ℕ) → Sound f → Sound (offer f x)
+unfolding Sound offer pairs_of
+offer_sound (over xs) x s = s
+offer_sound (fits xs) x s =
+    elim (cases_Bool (leb (length (insert_at x xs)) most_pairs)) [
+      | inl e ↦ rw e (insert_ascending x xs s.0, leb-true (length (insert_at x xs)) most_pairs e)
+      | inr e ↦ rw e s
+    ]
+
+pub all_sound : (f : Filling) (cs : List ℕ) → Sound f → Sound (offer_all f cs)
+unfolding offer_all
+all_sound f [] s = s
+all_sound f (x ∷ cs) s = all_sound (offer f x) cs (offer_sound f x s)
+
+pub held_sound : (b : Bool) {n : ℕ} {xs : List ℕ} → Held n xs → Sound (state_of b (take n xs))
+unfolding Sound
+held_sound b {n} {xs} h =
+    rw (state_pairs b (take n xs)) (h.ascending, omega (arith, h.count_fits, held_length h))
+
+-- an array with the fields of a filling holds it
+pub made_held : {f : Filling} {n : ℕ} {b : Bool} {xs : List ℕ} → Sound f → Made f n b xs → Held n xs
+    × (f ≡ state_of b (take n xs))
+unfolding Sound
+made_held {f} {n} {b} {xs} s m =
+    let t : take n xs ≡ pairs_of f = rw (m.entries_are, m.count_is) (padded_take (pairs_of f)) in (
+      record {
+        count_fits = omega (arith, m.count_is, s.1);
+        size = ap length m.entries_are ∙ padded_length (pairs_of f) s.1;
+        ascending = rw t s.0;
+        padding = m.entries_are ∙ ap padded (sym t);
+      },
+      sym (state_is f) ∙ ap₂ state_of (sym m.over_is) (sym t),
+    )
 
 pub ruleset over_offer = (state_over, stays_over)
 

@@ -4,7 +4,7 @@ use Rattle.std.proofs.Common.{◌≡◌, refl, sym, ap, ◌∙◌, List, [], ◌
 use Rattle.std.proofs.Common.{zero-le, suc-le-suc, not-suc-le-zero, le_of_suc-le-suc, zero-lt-suc, lt-ltb, le-ltb}
 use Rattle.std.proofs.Common.{eq-eqb, ne_eqb, length, take, drop, get_or}
 use Rattle.std.proofs.Common.{set, insert, inl, inr, length-append, length-take}
-use Rattle.std.proofs.Common.{length-drop, length-set, length-take-le, take-take, nat_cmp, Result, MatchResult}
+use Rattle.std.proofs.Common.{length-drop, length-set, take-take, nat_cmp, Result, MatchResult}
 use Rattle.std.specs.List.Sorted.{IsBinarySearchResult}
 use Rattle.std.proofs.lemmas.Grind.{take-set_at}
 use Rattle.std.proofs.lemmas.List.{drop-take, take-set-le, drop-set-lt, drop-append-le}
@@ -15,7 +15,6 @@ use borrow.Rule.Slice.PartMut.{put_mid, mid_of}
 use mathlib.Core.List.{Memᴰ}
 use Rattle.std.proofs.lemmas.Bool.{cases_lt}
 use Rattle.network.specs.Lists.{insert_at, Ascending}
-use Rattle.filling.specs.Building.{Held}
 
 -- an ascending list, by index
 member_at : (xs : List ℕ) (i : ℕ) → i < length xs → Memᴰ (get_or xs i 0) xs
@@ -29,9 +28,6 @@ ascending_at [] i j a h k = absurd (not-suc-le-zero k)
 ascending_at (x ∷ xs) i zero a h k = absurd (not-suc-le-zero h)
 ascending_at (x ∷ xs) zero (suc j) a h k = a.0 (get_or xs j 0) (member_at xs j (le_of_suc-le-suc k))
 ascending_at (x ∷ xs) (suc i) (suc j) a h k = ascending_at xs i j a.1 (le_of_suc-le-suc h) (le_of_suc-le-suc k)
-
-pub held_length : {n : ℕ} {xs : List ℕ} → Held n xs → length (take n xs) ≡ n
-held_length {n} {xs} h = length-take-le n xs (omega (arith, h.count_fits, h.size))
 
 not_falling : (xs : List ℕ) → Ascending xs → (i j : ℕ) → i ≤ j → j < length xs → get_or xs i 0 ≤ get_or xs j 0
 not_falling xs up i j h q =

@@ -60,10 +60,18 @@ pub record Held (count : ℕ) (entries : List ℕ) : Type 0 where
   pub ascending : Ascending (take count entries)
   pub padding : entries ≡ padded (take count entries)
 
--- the filling f is the list xs, or over exactly if that has more than 256 pairs
+-- count, over and array are those of the filling f
+pub record Made (f : Filling) (count : ℕ) (is_over_now : Bool) (entries : List ℕ) : Type 0 where
+  pub count_is : count ≡ length (pairs_of f)
+  pub over_is : is_over_now ≡ went_over f
+  pub entries_are : entries ≡ padded (pairs_of f)
+
+-- the filling f is the list xs, or over exactly if that has more than 256 pairs; in the array, xs and then zeros
 pub record Gives (xs : List ℕ) (f : Filling) : Type 0 where
   pub over_exactly : went_over f ≡ ltb most_pairs (length xs)
   pub pairs_are : went_over f ≡ false → pairs_of f ≡ xs
+  pub count_is : went_over f ≡ false → length (pairs_of f) ≡ length xs
+  pub entries_are : went_over f ≡ false → padded (pairs_of f) ≡ padded xs
 
 -- the array stored in a section: as much as the section has room for; what the section has behind the array stays
 unfoldable pub stored : List ℕ → List ℕ → List ℕ

@@ -49,7 +49,7 @@ pub struct Tally {
 /// A node's list: its pairs ascending in the first `count` entries, then zeros; over once a 257th was offered.
 // By hand: an array with its count, since a node's list is built as `[0; 256]`, a form of document 01; a flag beside it,
 // since the pairs of a list that is over stay.
-#[derive(Drop)]
+#[derive(Clone, Copy)]
 pub struct PairList {
     entries: [u32; 256],
     count: usize,
@@ -57,14 +57,24 @@ pub struct PairList {
 }
 
 impl Model for PairList {
-    ghost use Rattle.std.specs.Prelude.{take};
-    ghost use Rattle.filling.specs.Building.{Filling, state_of, Held};
+    ghost use Rattle.std.specs.Prelude.{length, take};
+    ghost use Rattle.filling.specs.Building.{Filling, state_of, pairs_of, went_over, padded, Held};
+    ghost use Rattle.std.proofs.Common.{sym};
+    ghost use Rattle.filling.specs.Fields.{held_made};
 
     ghost Value = { Filling };
 
     ghost view = { λ l. state_of l.over (take l.count l.entries) };
 
     ghost invariant = { λ l. Held l.count l.entries };
+
+    ghost inverse = { λ f. record { entries = padded (pairs_of f); count = length (pairs_of f); over = went_over f } };
+
+    ghost inverse_ok = { λ l h i. record {
+      entries = sym (held_made l.over h).entries_are i;
+      count = sym (held_made l.over h).count_is i;
+      over = sym (held_made l.over h).over_is i;
+    } };
 }
 
 // x put in at `at` among the first `count` entries.
@@ -108,7 +118,7 @@ impl Collector for PairList {
         self.count += 1;
     }
 
-    #[tactic(auto, using(crate::proofs::Fillings::state_over))]
+    #[tactic(auto, using(crate::specs::Fields::state_over))]
     fn is_over(&self) -> bool {
         self.over
     }
@@ -137,7 +147,7 @@ impl PairList {
     }
 
     /// Its pairs, ascending.
-    #[tactic(auto, using(crate::proofs::Fillings::state_pairs))]
+    #[tactic(auto, using(crate::specs::Fields::state_pairs))]
     pub fn pairs(&self) -> &[u32]
         ensures { result.now ≡ pairs_of self.now }
     {
@@ -157,7 +167,7 @@ impl PairList {
     }
 
     /// The pairs and zeros behind them into a section; of one shorter than 256, as much as it has room for.
-    #[tactic(auto, using(crate::proofs::Fillings::state_pairs))]
+    #[tactic(auto, using(crate::specs::Fields::state_pairs))]
     pub fn store(&self, section: &mut [u32])
         ensures { section.new ≡ stored (padded (pairs_of self.now)) section.old }
     {

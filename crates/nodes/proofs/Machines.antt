@@ -11,14 +11,14 @@ use Rattle.decoding.specs.Bytes.{record_of, first_record}
 use Rattle.decoding.proofs.Bytes.{first_kind}
 use Rattle.records.proofs.Choices.{cond_false}
 use Rattle.records.proofs.Sizes.{size_positive}
-use Rattle.reader.specs.declared.model.ReadFile.{ReadFile}
+use Rattle.reader.specs.declared.model.Readable.{Readable}
 use Rattle.decoding.specs.Labels.{label_of}
 use Rattle.reader.specs.File.{records_from, records_of, step_of, steps_of, model_of, file_model}
 use Rattle.places.specs.Finding.{machine_place, record_at, states_of, steps_at}
 use Rattle.reader.proofs.Turns.{rest}
 use Rattle.reader.proofs.Records.{none_left, records_next}
 use Rattle.places.proofs.Found.{machine_found}
-use Rattle.reader.proofs.ReadFiles.{file_formed}
+use Rattle.reader.proofs.ReadFiles.{readable_formed}
 use Rattle.reach.specs.Steps.{steps_in, machine_of, AllEndBelow}
 use Rattle.reach.specs.Table.{most_states}
 use Rattle.reach.proofs.Records.{formed_ends}
@@ -94,7 +94,7 @@ steps_said (suc f) b h w =
         let some : 0 < length b = omega arith in
         rw (records_next f b some) (at some (is step_kind (first_record b)) refl (ih some))
 
-module _ (f : ReadFile) (m : ℕ) (h : m < length (file_model f.bytes.now).machines) where
+module _ (f : Readable) (m : ℕ) (h : m < length (file_model f.bytes.now).machines) where
   -- the machine that number m names
   abbrev pub named : Machine
   named = get_or (file_model f.bytes.now).machines m idle
@@ -133,7 +133,7 @@ module _ (f : ReadFile) (m : ℕ) (h : m < length (file_model f.bytes.now).machi
 
   pub formed_named : MachineFormed (file_model f.bytes.now).events named
   formed_named =
-      (file_formed f).well_formed.machine_formed named (getD-member (file_model f.bytes.now).machines m idle h)
+      (readable_formed f).well_formed.machine_formed named (getD-member (file_model f.bytes.now).machines m idle h)
 
   -- what a machine made of its bytes asks
   module _ (states : ℕ) (steps : List ℕ) (e : machine_of states steps ≡ named) where
@@ -144,7 +144,7 @@ module _ (f : ReadFile) (m : ℕ) (h : m < length (file_model f.bytes.now).machi
         omega (
           arith,
           q,
-          ((file_formed f).within_limits.states_limit named (getD-member (file_model f.bytes.now).machines m idle h)).1,
+          ((readable_formed f).within_limits.states_limit named (getD-member (file_model f.bytes.now).machines m idle h)).1,
         )
 
     pub steps_end : AllEndBelow most_states (steps_in steps)

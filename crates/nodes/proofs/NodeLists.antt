@@ -3,7 +3,7 @@
 use Rattle.std.proofs.Common.{◌≡◌, refl, sym, ap, ◌∙◌, true, false, List, map, ℕ, ◌-◌, ◌*◌, ◌≤◌, ◌<◌, arith, eqb, length}
 use Rattle.std.proofs.Common.{take, drop, min, get_or, length-drop, take_all, eq-eqb}
 use Rattle.std.proofs.lemmas.List.{take_min, drop_min}
-use Rattle.std.specs.Prelude.{Some, None}
+use Rattle.std.specs.Prelude.{Some, None, [], fold}
 use mathlib.Core.List.{flat_map}
 use Rattle.events.specs.Sets.{room}
 use Rattle.network.specs.Network.{leaf}
@@ -13,11 +13,12 @@ use Rattle.network.specs.Lists.{join_candidates, hide_candidate, rename_candidat
 use Rattle.network.specs.Verdict.{most_pairs}
 use Rattle.records.specs.declared.Record.{Record}
 use Rattle.records.specs.Kinds.{leaf_kind, join_kind, hide_kind, is}
-use Rattle.reader.specs.declared.model.ReadFile.{ReadFile}
+use Rattle.reader.specs.declared.model.Readable.{Readable}
 use Rattle.reader.specs.File.{file_model}
-use Rattle.reader.proofs.ReadFiles.{file_formed}
+use Rattle.reader.proofs.ReadFiles.{readable_formed}
 use Rattle.entries.specs.Entries.{width}
-use Rattle.filling.specs.Building.{Filling, pairs_of, went_over, filled, padded, Gives, stored}
+use Rattle.filling.specs.Building.{Filling, fits, pairs_of, went_over, offer, filled, padded, Gives, stored}
+use Rattle.filling.proofs.Loops.{fold_filled}
 use Rattle.lists.specs.Promise.{JoinGivesRule, HideGivesRule, RenameGivesRule}
 use Rattle.lists.proofs.Promise.{join_gives_rule, hide_gives_rule, rename_gives_rule}
 use Rattle.leaf.specs.Subsets.{subsets_of}
@@ -37,28 +38,34 @@ cut_out counts area i start count p q =
     ap (λ (k : ℕ). take k (take (length area - start) (drop start area))) q
     ∙ take_min (get_or counts i 0) (take (length area - start) (drop start area)) ∙ ap (take (get_or counts i 0)) s
 
-module _ (f : ReadFile) where
+-- what is offered to a list that has no pair
+pub offered : {s out : Filling} (cs : List ℕ) → s ≡ fits [] → out ≡ fold offer s cs → out ≡ filled cs
+offered cs none e = e ∙ ap (λ (s : Filling). fold offer s cs) none ∙ fold_filled cs
+
+module _ (f : Readable) where
   abbrev M : Model
   M = file_model f.bytes.now
 
   few : M.events ≤ width
-  few = (file_formed f).within_limits.events_limit.1
+  few = (readable_formed f).within_limits.events_limit.1
 
-  pub few_events : f.events ≤ 16
-  few_events = omega (arith, few, f.events_are)
+  -- by the number of its events
+  module _ (n : ℕ) (e : n ≡ M.events) where
+    pub few_events : n ≤ 16
+    few_events = omega (arith, few, e)
 
-  -- the list of a leaf of machine m
-  pub pairs_give : (m : ℕ) (h : m < length M.machines) (out : Filling)
-      → out ≡ filled (flat_map (leaf_candidate f.events (named f m h)) (subsets_of (events_of room (named f m h))))
-      → Gives (list_of f.events (leaf (named f m h))) out
-  pairs_give m h out d = rw d (Leaves.leaf_gives f.events few_events (named f m h) (rw f.events_are (formed_named f m h)))
+    -- the list of a leaf of machine m
+    pub pairs_give : (m : ℕ) (h : m < length M.machines) (out : Filling)
+        → out ≡ filled (flat_map (leaf_candidate n (named f m h)) (subsets_of (events_of room (named f m h))))
+        → Gives (list_of n (leaf (named f m h))) out
+    pairs_give m h out d = rw d (Leaves.leaf_gives n few_events (named f m h) (rw e (formed_named f m h)))
 
   -- the list by the record's kind
   module _ (r : Record) (xs ys : List ℕ) (w : NodeReady M r xs ys) (out : Filling) where
-    pub leaf_gives : leaf_kind ≡ r.kind → Gives (list_of f.events (leaf (get_or M.machines r.number idle))) out
-        → Gives (list_for M r xs ys) out
+    pub leaf_gives : (n : ℕ) → n ≡ M.events → leaf_kind ≡ r.kind
+        → Gives (list_of n (leaf (get_or M.machines r.number idle))) out → Gives (list_for M r xs ys) out
     unfolding list_for
-    leaf_gives q g = rw (eq-eqb r.kind leaf_kind (sym q)) (rw f.events_are at g)
+    leaf_gives n e q g = rw (eq-eqb r.kind leaf_kind (sym q)) (rw e at g)
 
     pub join_gives : join_kind ≡ r.kind → out ≡ filled (join_candidates width r.set xs ys)
         → Gives (list_for M r xs ys) out

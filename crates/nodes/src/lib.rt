@@ -1,21 +1,21 @@
 // A node of a readable file: its operands' lists, a leaf's flag, and its list, built and stored.
 #![tactic(auto)]
 
-ghost use Rattle.std.specs.Prelude.{◌≡◌, true, ◌&&◌, ◌<◌, length, get_or};
+ghost use Rattle.std.specs.Prelude.{◌≡◌, true, ◌&&◌, ◌<◌, [], length, get_or};
 ghost use Rattle.network.specs.Network.{leaf};
 ghost use Rattle.network.specs.Model.{idle};
 ghost use Rattle.network.specs.Loops.{spins};
 ghost use Rattle.network.specs.Lists.{list_of};
 ghost use Rattle.records.specs.Kinds.{leaf_kind, is};
 ghost use Rattle.reader.specs.File.{file_model};
-ghost use Rattle.filling.specs.Building.{Gives};
+ghost use Rattle.filling.specs.Building.{fits, Gives};
 ghost use Rattle.nodes.specs.Nodes.{Placed, list_at, left_of, right_of, list_for};
 ghost use Rattle.nodes.specs.Nodes.{NodeReady, built_count, built_in};
 
 use events::EventSet;
 use filling::PairList;
 use reach::Machine;
-use reader::ReadFile;
+use reader::Readable;
 use records::{Kind, Record};
 
 // The lists of a node's operands; one that the node hasn't got is empty.
@@ -57,7 +57,7 @@ pub fn operands_of<'a>(r: Record, counts: &[usize; 32], sections: &'a [u32]) -> 
 }
 
 // Machine m of the file.
-fn machine_at(file: ReadFile<'_>, m: u32) -> Machine<'_>
+fn machine_at(file: Readable<'_>, m: u32) -> Machine<'_>
     requires { m < length (file_model file.bytes.now).machines }
     ensures { result ≡ get_or (file_model file.entry.bytes.now).machines m idle }
 {
@@ -71,7 +71,7 @@ fn machine_at(file: ReadFile<'_>, m: u32) -> Machine<'_>
 }
 
 // Whether the node is a leaf whose flag is up.
-pub fn is_spinning_leaf(file: ReadFile, r: Record) -> bool
+pub fn is_spinning_leaf(file: Readable, r: Record) -> bool
     requires { is leaf_kind r ≡ true → r.number < length (file_model file.bytes.now).machines }
     ensures { result ≡ (is leaf_kind r && spins (get_or (file_model file.entry.bytes.now).machines r.number idle)) }
 {
@@ -81,37 +81,34 @@ pub fn is_spinning_leaf(file: ReadFile, r: Record) -> bool
     leaf::is_spinning(&machine_at(file, r.number))
 }
 
-// The list of a leaf of machine m.
-fn leaf_list(file: ReadFile, m: u32) -> PairList
-    requires { m < length (file_model file.bytes.now).machines }
-    ensures { Gives (list_of file.entry.events (leaf (get_or (file_model file.entry.bytes.now).machines m idle))) result }
-{
-    leaf::pairs(&machine_at(file, m), file.events)
-}
-
-// The list of a node, from its operands'.
-fn node_list(file: ReadFile, r: Record, o: Operands) -> PairList
-    requires { NodeReady (file_model file.bytes.now) r o.left.now o.right.now }
-    ensures { Gives (list_for (file_model file.entry.bytes.now) r o.entry.left.now o.entry.right.now) result }
+// Offers the node's candidates to its list, which has no pair yet.
+// By hand: the list is lent, since one that is returned is copied three times on its way out.
+fn offer_node(list: &mut PairList, file: Readable, n: u32, r: Record, o: Operands)
+    requires none { list.old ≡ fits [] }
+    requires events { n ≡ (file_model file.bytes.now).events }
+    requires node { NodeReady (file_model file.bytes.now) r o.left.now o.right.now }
+    ensures { Gives (list_for (file_model file.entry.bytes.now) r o.entry.left.now o.entry.right.now) list.new }
 {
     let set = EventSet::from_bits(r.set);
     match Kind::try_from(r.kind) {
-        Ok(Kind::Leaf) => leaf_list(file, r.number),
-        Ok(Kind::Join) => lists::join(o.left, o.right, set),
-        Ok(Kind::Hide) => lists::hide(o.left, set),
-        _ => lists::rename(o.left, r.targets),
+        Ok(Kind::Leaf) => leaf::offer_leaf(list, &machine_at(file, r.number), n),
+        Ok(Kind::Join) => lists::offer_join(list, o.left, o.right, set),
+        Ok(Kind::Hide) => lists::offer_hide(list, o.left, set),
+        _ => lists::offer_rename(list, o.left, r.targets),
     }
 }
 
 // The node's list built and, unless it is over, stored in the section that comes first; its count, none of one that is
 // over.
-pub fn build(file: ReadFile, r: Record, o: Operands, sections: &mut [u32]) -> Option<usize>
-    requires { NodeReady (file_model file.bytes.now) r o.left.now o.right.now }
+pub fn build(file: Readable, n: u32, r: Record, o: Operands, sections: &mut [u32]) -> Option<usize>
+    requires events { n ≡ (file_model file.bytes.now).events }
+    requires node { NodeReady (file_model file.bytes.now) r o.left.now o.right.now }
     ensures count { result ≡ built_count (list_for (file_model file.entry.bytes.now) r o.entry.left.now o.entry.right.now) }
     ensures area { sections.new
         ≡ built_in (list_for (file_model file.entry.bytes.now) r o.entry.left.now o.entry.right.now) sections.old }
 {
-    let list = node_list(file, r, o);
+    let mut list = PairList::new();
+    offer_node(&mut list, file, n, r, o);
     let t = list.tally();
     if t.over {
         return None;

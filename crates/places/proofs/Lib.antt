@@ -7,3 +7,4 @@ pub mod Wholeness
 pub mod Bounding
 pub mod Multiplying
 pub mod Unique
+pub mod Factors

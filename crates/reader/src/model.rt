@@ -1,4 +1,4 @@
-// A file that has been read: its bytes, and how many events and nodes its model has.
+// A file that has been read: its bytes, alone or with how many events and nodes its model has.
 #![tactic(auto)]
 
 ghost use Rattle.std.specs.Prelude.{◌≡◌, ◌<◌, ℕ, length, MatchResult, Err};
@@ -7,6 +7,14 @@ ghost use Rattle.reader.specs.Scan.{readable, says, reading_of};
 ghost use Rattle.reader.specs.File.{file_model};
 
 use tests::Refusal;
+
+/// The bytes of a readable file.
+#[derive(Clone, Copy, Debug)]
+pub struct Readable<'a> {
+    pub bytes: &'a [u8],
+    pub ghost are_bytes: { (i : ℕ) → byte bytes.now i < 256 },
+    pub ghost is_read: { says bytes.now ≡ readable },
+}
 
 /// A readable file, and how many events and nodes its model has.
 #[derive(Clone, Copy, Debug)]

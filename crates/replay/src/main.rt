@@ -14,14 +14,19 @@ const UNTOUCHED: u32 = 0xaaaa_aaaa;
 
 // The first line of an answer, without its line feed.
 fn print_answer(rt: &impl Print, a: Result<Verdict, Refusal>) -> io::Result<()> {
-    let mut line = report::first_line(a);
-    let _ = line.pop();
-    rt.write_all(line.as_slice())
+    let line = report::first_line(a);
+    let text = line.as_slice();
+    rt.write_all(text.strip_suffix(b"\n").unwrap_or(text))
 }
 
 // How many entries of the area are x.
 fn count_of(area: &[u32], x: u32) -> usize {
-    area.iter().filter(|entry| **entry == x).count()
+    let mut count = 0;
+    // By hand: with `filter` the program takes two and a half times the instructions here, since its loop is no vector's.
+    for entry in area {
+        count += usize::from(*entry == x);
+    }
+    count
 }
 
 // How many entries of the area are zero, and how many still aaaaaaaa.

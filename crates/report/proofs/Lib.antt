@@ -1,6 +1,10 @@
 pub mod Decimals
+pub mod Digits
+pub mod Lengths
 pub mod Counting
 pub mod Example
 pub mod Long
 pub mod Promise
 pub mod Unique
+pub mod Framed
+pub mod Saying

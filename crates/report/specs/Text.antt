@@ -1,8 +1,9 @@
 -- The lines of the printed result, in bytes. Document 01, "The printed result". Assumes nothing.
-use Rattle.std.specs.Prelude.{cond, List, [], ◌∷◌, ◌++◌, ℕ, zero, suc, ◌+◌, ◌/◌, ◌%◌, ltb, eqb}
+use Rattle.std.specs.Prelude.{cond, List, [], ◌∷◌, ◌++◌, ℕ, zero, suc, ◌+◌, ◌-◌, ◌/◌, ◌%◌, ltb, eqb, length}
 use Rattle.network.specs.Lists.{first_of, second_of}
 use Rattle.network.specs.Verdict.{Verdict, pass, inconclusive, refused}
 use Rattle.records.specs.Kinds.{leaf_kind, join_kind, hide_kind, rename_kind}
+use Rattle.filling.specs.Building.{zeros}
 
 -- the decimal digit d
 abbrev pub decimal_digit : ℕ → ℕ
@@ -68,3 +69,11 @@ pair_line x = line (hex (first_of x) ∷ hex (second_of x) ∷ [])
 unfoldable pub pair_count : List ℕ → ℕ
 pair_count [] = 0
 pair_count (x ∷ xs) = cond (eqb x 0) 0 (suc (pair_count xs))
+
+-- the most bytes that a line has, its line feed included
+abbrev pub longest : ℕ
+longest = 40
+
+-- a line's text t in an array of 40 bytes: t, then zeros
+unfoldable pub framed : List ℕ → List ℕ
+framed t = t ++ zeros (longest - length t)

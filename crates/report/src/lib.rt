@@ -2,69 +2,119 @@
 #![tactic(auto)]
 
 ghost use Rattle.std.specs.Prelude.{◌≡◌, [], ◌∷◌, ◌++◌, ◌<◌, ◌≤◌, ◌+◌, length};
-ghost use Rattle.arrayvec.specs.ArrayVec.{array_vec_len};
 ghost use Rattle.network.specs.Verdict.{refused};
-ghost use Rattle.verdict.specs.Answers.{verdict_of};
 ghost use Rattle.report.specs.Text.{decimal, hex_digit, hex, kind_name, line, first_line, node_line, pair_line};
 ghost use Rattle.report.specs.Text.{pair_count};
+ghost use Rattle.report.specs.Said.{verdict_by};
 
 pub mod promises;
+pub mod refusals;
 
-use arrayvec::ArrayVec;
 use itoa::Buffer;
 use records::Kind;
-use tests::Refusal;
+pub use refusals::{AnyRefusal, Numbered};
+use std::marker::Model;
 use verdict::Verdict;
 
-// A line, its line feed included.
-// By hand: no Display, whose `fmt` may fail; that a line can't fail is what `first_line` and the others promise.
-pub type Line = ArrayVec<u8, 40>;
+// A line, its line feed included: at most 40 bytes, with zeros behind them.
+// By hand: no Display, whose `fmt` may fail; that a line can't fail is what `first_line` and the others promise. And no
+// `ArrayVec`, which is not `Copy`.
+#[derive(Clone, Copy, Debug, PartialEq, Eq)]
+pub struct Line {
+    bytes: [u8; 40],
+    count: usize,
+}
 
-// A word behind what the line has.
-fn push_word(line: &mut Line, word: &str)
-    requires { array_vec_len line.old + length word.now ≤ 40 }
-    ensures { line.new.items ≡ line.old.items ++ word.now }
-{
-    line.try_extend_from_slice(word.as_bytes()).unwrap();
+// Clauses see the line's text.
+impl Model for Line {
+    ghost use Rattle.std.specs.Prelude.{List, ℕ, length, take};
+    ghost use Rattle.std.proofs.Common.{sym};
+    ghost use Rattle.report.specs.Text.{framed};
+    ghost use Rattle.report.specs.Framing.{Framed, framed_count};
+
+    ghost Value = { List ℕ };
+
+    ghost view = { λ l. take l.count l.bytes };
+
+    ghost invariant = { λ l. Framed l.count l.bytes };
+
+    ghost inverse = { λ t. record { bytes = framed t; count = length t } };
+
+    ghost inverse_ok = { λ l h i. record { bytes = sym h.text_first i; count = framed_count h i } };
+}
+
+impl Line {
+    // The line with no byte.
+    #[tactic(auto, using(crate::proofs::Framed::framed_none))]
+    fn new() -> Line
+        ensures { result ≡ [] }
+    {
+        Line {
+            bytes: [0; 40],
+            count: 0,
+        }
+    }
+
+    // A word behind what the line has.
+    #[tactic(auto, using(crate::proofs::Framed::word_first, crate::proofs::Framed::word_framed))]
+    fn push(&mut self, word: &[u8])
+        requires { length self.old + length word.now ≤ 40 }
+        ensures { self.new ≡ self.old ++ word.now }
+    {
+        let end = self.count + word.len();
+        self.bytes[self.count..end].copy_from_slice(word);
+        self.count = end;
+    }
+
+    /// The line's bytes.
+    pub fn as_slice(&self) -> &[u8]
+        ensures bytes { result.now ≡ self.now }
+        ensures fits { length result.now ≤ 40 }
+    {
+        &self.bytes[..self.count]
+    }
 }
 
 // The line of a verdict on the network: its word and its number.
 fn verdict_line(word: &str, n: u64) -> Line
     requires { length word.now ≤ 18 }
-    ensures { result.items ≡ line (word.now ∷ decimal n ∷ []) }
+    ensures { result ≡ line (word.now ∷ decimal n ∷ []) }
 {
     let mut digits = Buffer::new();
     let mut line = Line::new();
-    push_word(&mut line, word);
-    line.push(b' ');
-    push_word(&mut line, digits.format(n));
-    line.push(b'\n');
+    line.push(word.as_bytes());
+    line.push(b" ");
+    line.push(digits.format(n).as_bytes());
+    line.push(b"\n");
     line
 }
 
 // The line of a refusal: its number, as it is printed, and its place; for every number, also one that no reason has.
 pub fn refused_line(number: u32, place: usize) -> Line
-    ensures { result.items ≡ first_line (refused number place) }
+    ensures { result ≡ first_line (refused number place) }
 {
     let mut digits = Buffer::new();
     let mut refusal = Line::new();
-    push_word(&mut refusal, "refused ");
-    push_word(&mut refusal, digits.format(number));
-    refusal.push(b' ');
-    push_word(&mut refusal, digits.format(place));
-    refusal.push(b'\n');
+    refusal.push(b"refused ");
+    refusal.push(digits.format(number).as_bytes());
+    refusal.push(b" ");
+    refusal.push(digits.format(place).as_bytes());
+    refusal.push(b"\n");
     refusal
 }
 
 // The first line: `pass` and the bound, `inconclusive` and the node, or `refused`, the number and the place.
-#[tactic(auto, unfolding(verdict::specs::Answers::verdict_of, crate::specs::Text::first_line))]
-pub fn first_line(a: Result<Verdict, Refusal>) -> Line
-    ensures { result.items ≡ first_line (verdict_of a) }
+#[tactic(auto, unfolding(crate::specs::Said::verdict_by, crate::specs::Text::first_line))]
+pub fn first_line<R: Numbered>(a: Result<Verdict, R>) -> Line
+    ensures { result ≡ first_line (verdict_by R.number_of R.place_of a) }
 {
     match a {
         Ok(Verdict::Pass { bound }) => verdict_line("pass", bound),
         Ok(Verdict::Inconclusive(k)) => verdict_line("inconclusive", k as u64),
-        Err(refusal) => refused_line(refusal.reason.number(), refusal.place),
+        Err(refusal) => {
+            let AnyRefusal { number, place } = refusal.said();
+            refused_line(number, place)
+        }
     }
 }
 
@@ -87,16 +137,16 @@ fn kind_name(kind: u32) -> &'static str
 // A node's line: its number, the name of its kind, and how many pairs it has.
 // By hand: the kind is a number, since the clause is for every number.
 pub fn node_line(k: u32, kind: u32, pairs: usize) -> Line
-    ensures { result.items ≡ node_line k kind pairs }
+    ensures { result ≡ node_line k kind pairs }
 {
     let mut node = Line::new();
     let mut digits = Buffer::new();
-    push_word(&mut node, digits.format(k));
-    node.push(b' ');
-    push_word(&mut node, kind_name(kind));
-    node.push(b' ');
-    push_word(&mut node, digits.format(pairs));
-    node.push(b'\n');
+    node.push(digits.format(k).as_bytes());
+    node.push(b" ");
+    node.push(kind_name(kind).as_bytes());
+    node.push(b" ");
+    node.push(digits.format(pairs).as_bytes());
+    node.push(b"\n");
     node
 }
 
@@ -109,31 +159,31 @@ fn hex_digit(d: u32) -> u8
     char::from_digit(d, 16).unwrap() as u8
 }
 
-// A set's four hex digits behind what the line has.
+// A set's four hex digits.
 // By hand: hex digits of core are a Display's, which may fail.
 #[tactic(auto, unfolding(crate::specs::Text::hex))]
-fn push_set(line: &mut Line, set: u32)
-    requires { array_vec_len line.old + 4 ≤ 40 }
-    ensures items { line.new.items ≡ line.old.items ++ hex set }
-    ensures len { array_vec_len line.new ≡ array_vec_len line.old + 4 }
+fn hex(set: u32) -> [u8; 4]
+    ensures { result ≡ hex set }
 {
-    line.push(hex_digit(set / 4096 % 16));
-    line.push(hex_digit(set / 256 % 16));
-    line.push(hex_digit(set / 16 % 16));
-    line.push(hex_digit(set % 16));
+    [
+        hex_digit(set / 4096 % 16),
+        hex_digit(set / 256 % 16),
+        hex_digit(set / 16 % 16),
+        hex_digit(set % 16),
+    ]
 }
 
 // A pair's line: F, then C, of its entry.
 pub fn pair_line(x: u32) -> Line
-    ensures { result.items ≡ pair_line x }
+    ensures { result ≡ pair_line x }
 {
     let f = x / 65536;
     let c = x % 65536;
     let mut pair = Line::new();
-    push_set(&mut pair, f);
-    pair.push(b' ');
-    push_set(&mut pair, c);
-    pair.push(b'\n');
+    pair.push(&hex(f));
+    pair.push(b" ");
+    pair.push(&hex(c));
+    pair.push(b"\n");
     pair
 }
 

@@ -115,7 +115,7 @@ module _ (M : Model) (area₀ : List ℕ) (k : ℕ) (area counts : List ℕ) (P 
       drop_all [] = refl
       drop_all (t ∷ ts) = drop_all ts
 
-  module _ (l : length (networks M) ≡ length M.nodes) (few : length M.nodes ≤ 32) (h : k < length M.nodes) where
+  module _ (l : length (networks M) ≡ length M.nodes) (h : k < length M.nodes) where
     -- node k's own turn
     turn : verdict M ≡ verdict_from M.events (bound M) k (node_network M k ∷ drop (suc k) (networks M))
     unfolding node_network
@@ -166,7 +166,7 @@ module _ (M : Model) (area₀ : List ℕ) (k : ℕ) (area counts : List ℕ) (P 
         by false c = let z : ◌≡◌ {A = ℕ} 0 1 = cc in absurd (omega arith)
 
     -- node k gives nothing: its list xs is stored in the rest of the area, and counts
-    module _ (room : most_pairs * length M.nodes ≤ length area₀)
+    module _ (few : k < 32) (room : most_pairs * length M.nodes ≤ length area₀)
         (e : operand_empty M.events (node_network M k) ≡ false) (f : flag_of M.events (node_network M k) ≡ false)
         (xs : List ℕ) (x : xs ≡ list_of M.events (node_network M k)) (count : ℕ) (c : Some count ≡ built_count xs) where
       kept_few : ltb most_pairs (length xs) ≡ false

@@ -140,13 +140,13 @@ module _ (f : ReadFile) (area₀ : List ℕ) (room : most_pairs * f.nodes ≤ le
       pub sweep_empty : (has_empty_first xs || has_empty_first ys) ≡ true → (area' : List ℕ) → area' ≡ area
           → Ends M area₀ (Err (refusal EmptyFirst k)) area'
       sweep_empty e area' z =
-          rw z (stop_empty M area₀ k area counts w.passing long few_nodes here room_there (a.empties ∙ e))
+          rw z (stop_empty M area₀ k area counts w.passing long here room_there (a.empties ∙ e))
 
       module _ (e : (has_empty_first xs || has_empty_first ys) ≡ false) where
         pub sweep_flag : (spins_at M r || swallows r xs) ≡ true → (area' : List ℕ) → area' ≡ area
             → Ends M area₀ (Ok (Inconclusive k)) area'
         sweep_flag q area' z =
-            rw z (stop_flag M area₀ k area counts w.passing long few_nodes here room_there (a.empties ∙ e) (a.flags ∙ q))
+            rw z (stop_flag M area₀ k area counts w.passing long here room_there (a.empties ∙ e) (a.flags ∙ q))
 
         -- the list is built: 11, or on to the next node
         module _ (q : (spins_at M r || swallows r xs) ≡ false) (front rest rest' : List ℕ)
@@ -155,7 +155,7 @@ module _ (f : ReadFile) (area₀ : List ℕ) (room : most_pairs * f.nodes ≤ le
           pub sweep_over : front ++ rest ≡ area → None ≡ built_count (list_for M r xs ys)
               → Ends M area₀ (Err (refusal TooManyPairs k)) (front ++ rest')
           sweep_over z n =
-              stop_over M area₀ k area counts w.passing long few_nodes here room_there (a.empties ∙ e) (a.flags ∙ q)
+              stop_over M area₀ k area counts w.passing long here room_there (a.empties ∙ e) (a.flags ∙ q)
               (list_for M r xs ys) a.list_is_built n front rest rest' z t
 
           pub sweep_on : (count : ℕ) → Some count ≡ built_count (list_for M r xs ys) → r ≡ record_at f.bytes.now place
@@ -165,6 +165,6 @@ module _ (f : ReadFile) (area₀ : List ℕ) (room : most_pairs * f.nodes ≤ le
               record {
                 placed = next_placed r er size es;
                 passing =
-                    go_on M area₀ k area counts w.passing long few_nodes here room_there (a.empties ∙ e)
+                    go_on M area₀ k area counts w.passing long here few_here room_there (a.empties ∙ e)
                     (a.flags ∙ q) (list_for M r xs ys) a.list_is_built count c front rest rest' p b t;
               }

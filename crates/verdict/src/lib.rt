@@ -12,7 +12,7 @@ ghost use Rattle.verdict.specs.Answers.{verdict_of};
 ghost use Rattle.verdict.specs.Sweeping.{swept_to, through, BehindKept};
 
 use events::EventSet;
-use reader::ReadFile;
+use reader::{ReadFile, Readable};
 use records::{Kind, Record};
 use tests::{Reason, Refusal};
 
@@ -49,6 +49,7 @@ pub fn sweep(file: ReadFile, area: &mut [u32]) -> Result<Verdict, Refusal>
     // By hand: counts beside the area; if slices of it are kept, what it is at the end stays open in the proof.
     let mut counts = [0usize; 32];
     let mut place = places::node_place(file.bytes, 0);
+    let readable = Readable { bytes: file.bytes };
     'nodes: {
         for k in 0..file.nodes {
             let r = places::record_at(file.bytes, place);
@@ -60,10 +61,10 @@ pub fn sweep(file: ReadFile, area: &mut [u32]) -> Result<Verdict, Refusal>
                     place: k as usize,
                 });
             }
-            if nodes::is_spinning_leaf(file, r) || is_swallowing_hide(r, o.left) {
+            if nodes::is_spinning_leaf(readable, r) || is_swallowing_hide(r, o.left) {
                 break 'nodes Ok(Verdict::Inconclusive(k));
             }
-            let Some(count) = nodes::build(file, r, o, rest) else {
+            let Some(count) = nodes::build(readable, file.events, r, o, rest) else {
                 break 'nodes Err(Refusal {
                     reason: Reason::TooManyPairs,
                     place: k as usize,

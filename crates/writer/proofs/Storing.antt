@@ -29,10 +29,16 @@ module _ (b : List ℕ) (used : ℕ) (r : Record) (end : ℕ) (s : Success (leng
         clean_place (length (take used b)) start (take used b) g (omega arith) s.stopped in
         bytes_fit g r (size_of r.kind) (passed_out g r (size_of r.kind) s.no_hit) kept (omega arith) form
 
-    -- where they are written, the rest of the buffer is left
-    pub stored_is : take used b ++ (take (end - used) (record_array r) ++ drop (end - used) (drop used b))
+    -- where bytes with that front are written, the rest of the buffer is left
+    pub stored_of : (bytes : List ℕ) → take (size_of r.kind) bytes ≡ map low_byte (bytes_of r)
+        → take used b ++ (take (end - used) bytes ++ drop (end - used) (drop used b))
         ≡ take used b ++ (bytes_of r ++ drop end b)
-    stored_is =
+    stored_of bytes q =
         let size : end - used ≡ size_of r.kind = omega (arith, s.ends_at) in
         let at : used + size_of r.kind ≡ end = sym s.ends_at in
-        rw (size, array_front r form.targets_few, stored_encoding, drop-drop (size_of r.kind) used b, at)
+        rw (size, q, stored_encoding, drop-drop (size_of r.kind) used b, at)
+
+    -- as the record's own are
+    pub stored_is : take used b ++ (take (end - used) (record_array r) ++ drop (end - used) (drop used b))
+        ≡ take used b ++ (bytes_of r ++ drop end b)
+    stored_is = stored_of (record_array r) (array_front r form.targets_few)

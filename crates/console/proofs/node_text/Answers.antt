@@ -27,7 +27,7 @@ slice_bounds-x-items-end c = grind (arith, common_steps, count_within c.args.sec
 pub loop-x-init : goal.loop-x-init
 unfolding text_of
 loop-x-init c =
-    let short : length c.node_line.result.items ≤ 40 = search rules in
+    let short : length c.node_line.result ≤ 40 = search rules in
     record {
       on = rw (c.add_line.ensures, c.clear.ensures, c.node_line.ensures, c.pair_count-count.ensures);
       short = rw (c.add_line.ensures, c.clear.ensures) short;

@@ -1,13 +1,13 @@
 use Rattle.std.proofs.Common.{arith, ◌∙◌}
-use Rattle.reader.proofs.ReadFiles.{file_short}
+use Rattle.reader.proofs.ReadFiles.{readable_short}
 use Rattle.nodes.proofs.Machines.{place_within, steps_within, machine_is, few_states, steps_end}
 use Rattle.nodes.proofs.machine_at.Goals as goal
 
 pub machine_place-place-requires : goal.machine_place-place-requires
-machine_place-place-requires c = file_short c.args.file
+machine_place-place-requires c = readable_short c.args.file
 
 pub steps_at-requires : goal.steps_at-requires
-steps_at-requires c = file_short c.args.file
+steps_at-requires c = readable_short c.args.file
 
 pub overflow_add-end : goal.overflow_add-end
 overflow_add-end c =
@@ -16,7 +16,7 @@ overflow_add-end c =
       arith,
       steps_within g.file g.m c.requires c.machine_place-place.result c.steps_at.result c.machine_place-place.ensures
           c.steps_at.ensures,
-      file_short g.file,
+      readable_short g.file,
     )
 
 pub slice_bounds-new-end : goal.slice_bounds-new-end
@@ -40,4 +40,4 @@ returns c =
     c.steps_at.ensures _ c.number_at.ensures
 
 pub overflow_add-start : goal.overflow_add-start
-overflow_add-start c = omega (arith, c.machine_place-place.ensures, place_within c.args.file c.args.m c.requires, file_short c.args.file)
+overflow_add-start c = omega (arith, c.machine_place-place.ensures, place_within c.args.file c.args.m c.requires, readable_short c.args.file)

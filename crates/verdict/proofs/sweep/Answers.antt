@@ -36,7 +36,8 @@ pub is_spinning_leaf-requires : goal.is_spinning_leaf-requires
 is_spinning_leaf-requires c = (seen (goal.at.is_spinning_leaf-requires c).After-operands_of-o).ready.machine_in
 
 pub build-requires : goal.build-requires
-build-requires c = (seen (goal.at.build-requires c).After-operands_of-o).ready
+build-requires c =
+    record { events = c.args.file.events_are; node = (seen (goal.at.build-requires c).After-operands_of-o).ready }
 
 pub bounds-counts-k : goal.bounds-counts-k
 bounds-counts-k c =

@@ -1,5 +1,5 @@
 use Rattle.std.proofs.Common.{refl, sym, ◌∙◌, arith}
-use Rattle.filling.proofs.Places.{held_length}
+use Rattle.filling.specs.Fields.{held_length}
 use Rattle.filling.proofs.Fillings.{offer_there, offer_new, offer_full, is_there, belongs, held_more}
 use Rattle.filling.proofs.PairListCollector.offer.Goals as goal
 
